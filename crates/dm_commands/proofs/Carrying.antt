@@ -1,7 +1,10 @@
 -- What is said in some terms is said in others to which they are carried.
-use Rattle.dm_commands.proofs.Names.{◌≡◌, inl, inr, ℕ, Bool, false, List, length, Option, Some, None, Boot, Directive, IsValid, All, IsFor, World, Verdict, good_verdict, Drill as TheDrill, boot_of_machines, directives_of_drill, IsWithin}
-use Rattle.dm_commands.proofs.Names.{Status, Done, Usage, ReadFault, NoMemory, WriteFault, BootRefused, ScheduleRefused, TooLong, Worn, TraceRefused, Request, Chart, Check, Count, Explain, Run}
-use Rattle.dm_words.specs.Request.{Drill}
+use Rattle.dm_commands.proofs.Names.{◌≡◌, inl, inr, ℕ, Bool, true, false, List, length, Option, Some, None, Boot, Directive, IsValid, All, IsFor, World, Verdict, good_verdict, Drill as TheDrill, boot_of_machines, directives_of_drill, IsWithin}
+use Rattle.dm_commands.proofs.Names.{Status, Done, Usage, ReadFault, NoMemory, WriteFault, BootRefused, ScheduleRefused, TooLong, Worn, TraceRefused, Request, Chart, Check, Count, Explain, Judge, Run}
+use Rattle.dm_draw.specs.declared.drill.OwnDrill.{OwnDrill as TheOwnDrill}
+use Rattle.dm_draw.specs.declared.drill.Shows.{Shows}
+use Rattle.dm_draw.specs.declared.drill.Shows.TheVariants as shows
+use Rattle.dm_words.specs.Request.{Drill, OwnDrill}
 use Rattle.dm_run.proofs.Carried.{Carries, carried_before_worn, carried_begun, carried_first, carried_picture, carried_run_wears, carried_whole}
 use Rattle.dm_run.specs.Notion.{Notion}
 use Rattle.dm_drill.proofs.Carried as drill
@@ -11,6 +14,10 @@ use Rattle.dm_commands.specs.Charts.{BeginsPicture, ChartSays, IsPicture, ShowsB
 use Rattle.dm_commands.specs.Checks.{CheckMeets, CheckSaying, CheckSays, IsGoodTrace, RefusesTrace, TraceMeans}
 use Rattle.dm_commands.specs.Commands.{CommandMeets, Terms}
 use Rattle.dm_commands.specs.Drills.{CountSays, CountedSays, report_of}
+use Rattle.dm_commands.proofs.OwnDrilling.{own_for}
+use Rattle.dm_commands.specs.OwnDrills.{OwnMeets, OwnSays, ShownSays, directives_for, own_report}
+use Rattle.dm_check.specs.declared.refusal.WasDue.{WasDue}
+use Rattle.dm_commands.specs.Judges.{JudgeMeets, JudgeTells, TellsJudged, TellsTrace}
 use Rattle.dm_commands.specs.Outside.{Around}
 use Rattle.dm_commands.specs.Runs.{RunMeets, RunSaying, RunSays}
 
@@ -61,6 +68,7 @@ counted_said r q tr k b ds before after world (TraceRefused line why) c h = absu
 pub record CarriesTraces (m n : TraceMeans) (b : Boot) : Type 0 where
   pub comes_to : (bytes : List ℕ) (v : Verdict) → m.comes_to b bytes v → n.comes_to b bytes v
   pub is_of : (bytes : List ℕ) (groups : ℕ) (ended : Bool) → m.is_of b bytes groups ended → n.is_of b bytes groups ended
+  pub due_in : (bytes : List ℕ) (line : ℕ) (due : WasDue) → m.due_in b bytes line due → n.due_in b bytes line due
 
 good_said : (m n : TraceMeans) (b : Boot) (bytes : List ℕ) (groups : ℕ) (ended : Bool) → CarriesTraces m n b → IsGoodTrace m b bytes groups ended → IsGoodTrace n b bytes groups ended
 good_said m n b bytes groups ended c h = record { verdict = c.comes_to bytes (good_verdict groups ended) h.verdict; trace = c.is_of bytes groups ended h.trace }
@@ -104,6 +112,68 @@ check_met Says More boot trace a world s more h = record {
   met = h.met;
 }
 
+-- what is shown of a drill of a boot file's system
+shown_said : (r q : Notion) (d : TheOwnDrill) (shown : Shows) (b : Boot) (ds : List Directive) (before after : Option (List ℕ)) (world : Option World) (s : Status) → Carries r q b ds → ShownSays r d shown b ds before after world s → ShownSays q d shown b ds before after world s
+shown_said r q d shows.Summary b ds before after world s c h = counted_said r q false (own_report b d) b ds before after world s c h
+shown_said r q d shows.Groups b ds before after world s c h = counted_said r q true (own_report b d) b ds before after world s c h
+shown_said r q d shows.Directives b ds before after world s c h = h
+
+own_met : {F K : Type 0} (Says More : RunSaying) (boot : List ℕ) (d : TheOwnDrill) (a : Around F K) (world : Option World) (s : Status)
+    → ((b : Boot) (before after : Option (List ℕ)) → IsValid b → Says b (directives_for b d) before after world s → More b (directives_for b d) before after world s) → OwnMeets Says boot d a world s → OwnMeets More boot d a world s
+own_met Says More boot d a world s more h = record {
+  says = elim h.says [
+    | inl r ↦ inl (record { system = r.system; says_boot = r.says_boot; valid = r.valid; says = more r.system _ _ r.valid r.says })
+    | inr n ↦ inr n
+  ];
+  refuses = h.refuses;
+  met = h.met;
+}
+
+-- what is said of a trace, and of what was due in it
+tells_trace : (m n : TraceMeans) (b : Boot) (bytes : List ℕ) (due : Status) (text : List ℕ) → CarriesTraces m n b → TellsTrace m b bytes due text → TellsTrace n b bytes due text
+tells_trace m n b bytes Done text c h = record { groups = h.groups; ended = h.ended; good = good_said m n b bytes h.groups h.ended c h.good; text_is = h.text_is }
+tells_trace m n b bytes (TraceRefused line why) text c h = record {
+  refusal = h.refusal;
+  refused = c.comes_to bytes _ h.refused;
+  due = c.due_in bytes h.refusal.line h.refusal.due h.due;
+  line_is = h.line_is;
+  why_is = h.why_is;
+  text_is = h.text_is;
+}
+tells_trace m n b bytes Usage text c h = absurd h
+tells_trace m n b bytes (ReadFault i) text c h = absurd h
+tells_trace m n b bytes (NoMemory lack) text c h = absurd h
+tells_trace m n b bytes WriteFault text c h = absurd h
+tells_trace m n b bytes (BootRefused number place) text c h = absurd h
+tells_trace m n b bytes (ScheduleRefused line why) text c h = absurd h
+tells_trace m n b bytes (TooLong i) text c h = absurd h
+tells_trace m n b bytes (Worn from to) text c h = absurd h
+
+tells_judged : (m n : TraceMeans) (files : Option (List ℕ → Option (List ℕ))) (boot trace : List ℕ) (due : Status) (text : List ℕ) → ((b : Boot) → IsValid b → CarriesTraces m n b) → TellsJudged m files boot trace due text → TellsJudged n files boot trace due text
+tells_judged m n files boot trace due text c h = record { system = h.system; bytes = h.bytes; has = h.has; valid = h.valid; tells = tells_trace m n h.system h.bytes due text (c h.system h.valid) h.tells }
+
+judge_told : (m n : TraceMeans) (files : Option (List ℕ → Option (List ℕ))) (boot trace : List ℕ) (due : Status) (text : List ℕ) → ((b : Boot) → IsValid b → CarriesTraces m n b) → JudgeTells m files boot trace due text → JudgeTells n files boot trace due text
+judge_told m n files boot trace (BootRefused number place) text c h = h
+judge_told m n files boot trace Done text c h = tells_judged m n files boot trace Done text c h
+judge_told m n files boot trace (TraceRefused line why) text c h = tells_judged m n files boot trace (TraceRefused line why) text c h
+judge_told m n files boot trace Usage text c h = absurd h.tells
+judge_told m n files boot trace (ReadFault i) text c h = absurd h.tells
+judge_told m n files boot trace (NoMemory lack) text c h = absurd h.tells
+judge_told m n files boot trace WriteFault text c h = absurd h.tells
+judge_told m n files boot trace (ScheduleRefused line why) text c h = absurd h.tells
+judge_told m n files boot trace (TooLong i) text c h = absurd h.tells
+judge_told m n files boot trace (Worn from to) text c h = absurd h.tells
+
+judge_met : {F K : Type 0} (m n : TraceMeans) (boot trace : List ℕ) (a : Around F K) (world : Option World) (s : Status) → ((b : Boot) → IsValid b → CarriesTraces m n b) → JudgeMeets m boot trace a world s → JudgeMeets n boot trace a world s
+judge_met m n boot trace a world s c h = record {
+  says = elim h.says [
+    | inl r ↦ inl (record { due = r.due; text = r.text; tells = judge_told m n (a.shelf.told a.shelf.old) boot trace r.due r.text c r.tells; wrote = r.wrote })
+    | inr k ↦ inr k
+  ];
+  no_world = h.no_world;
+  met = h.met;
+}
+
 -- terms are carried to others
 pub record CarriesTerms (t u : Terms) : Type 0 where
   pub runs : (b : Boot) (ds : List Directive) → IsValid b → All (IsFor (length b.machines)) ds → Carries t.run u.run b ds
@@ -119,6 +189,7 @@ carried t u (Some (Chart boot schedule)) a world s c h = record {
   no_world = h.no_world;
 }
 carried t u (Some (Explain boot schedule)) a world s c h = h
+carried t u (Some (Judge boot trace)) a world s c h = judge_met t.trace u.trace boot trace a world s c.traces h
 carried t u (Some (Count boot schedule)) a world s c h =
     run_met (CountSays t.run) (CountSays u.run) boot schedule a world s (λ b ds before after valid each says. counted_said t.run u.run false report.OfRun b ds before after world s (c.runs b ds valid each) says) h
 carried t u (Some (Drill d)) a world s c h = record {
@@ -126,3 +197,5 @@ carried t u (Some (Drill d)) a world s c h = record {
   meets = record { says = counted_said t.run u.run d.trace (report_of d) (boot_of_machines d.machines) (directives_of_drill d) _ _ world s (c.drills d h.within) h.meets.says; sink = h.meets.sink };
   shelf = h.shelf;
 }
+carried t u (Some (OwnDrill boot d)) a world s c h =
+    own_met (OwnSays t.run d) (OwnSays u.run d) boot d a world s (λ b before after valid says. shown_said t.run u.run d d.shows b (directives_for b d) before after world s (c.runs b (directives_for b d) valid (own_for b d valid)) says) h

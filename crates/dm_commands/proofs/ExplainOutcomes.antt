@@ -67,7 +67,7 @@ as_run files boot schedule text before after old new k k' due s h w = elim w [
 ]
 
 -- why there is no system is a function of the boot file, where no read fails and memory is there
-no_boot : (files : Files) (boot : List ℕ) (old new : ℕ) (s : Status) → (RoseOrFull old new → ⊥) → (IsWant s → ⊥) → NoBoot (Some files) boot old new s → boot_part (files boot) (λ b. Done) ≡ s
+pub no_boot : (files : Files) (boot : List ℕ) (old new : ℕ) (s : Status) → (RoseOrFull old new → ⊥) → (IsWant s → ⊥) → NoBoot (Some files) boot old new s → boot_part (files boot) (λ b. Done) ≡ s
 no_boot files boot old new Done quiet some h = absurd h
 no_boot files boot old new Usage quiet some h = absurd h
 no_boot files boot old new (ReadFault input.Boot) quiet some h = absurd (quiet h)

@@ -8,7 +8,9 @@ mod Charting
 pub mod CheckOutcomes
 mod Checking
 pub mod Drills
-mod ExplainOutcomes
+pub mod ExplainOutcomes
+pub mod Judging
+pub mod OwnDrilling
 pub mod Obeying
 pub mod Silent
 pub mod Carrying

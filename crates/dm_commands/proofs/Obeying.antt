@@ -1,19 +1,22 @@
 -- What the program promises, whatever its words ask for.
 use Rattle.dm_commands.proofs.Names.{◌≡◌, inl, inr, ℕ, List, refl, ap, sym, subst, ◌∙◌, Option, Some, None, TheNoMemory, Boot, Directive, World, Input, Status, Done, Usage, ReadFault, NoMemory, WriteFault, NoFiles, NoTrace, NoInputs, NoBoot, Drill as TheDrill}
-use Rattle.dm_commands.proofs.Names.{Request, Chart, Check, Count, Explain, Run, WordsError, status_of_no}
-use Rattle.dm_words.specs.Request.{Drill}
+use Rattle.dm_commands.proofs.Names.{Request, Chart, Check, Count, Explain, Judge, Run, WordsError, status_of_no}
+use Rattle.dm_words.specs.Request.{Drill, OwnDrill}
 use Rattle.dm_words.specs.declared.words.WordsError.TheVariants as why
 use Rattle.dm_ending.specs.declared.status.Input.TheVariants as input
 use Rattle.dm_commands.proofs.Checking as checking
 use Rattle.dm_commands.proofs.ExplainOutcomes as explaining
+use Rattle.dm_commands.proofs.Judging.{lack_judged, never_judges}
 use Rattle.dm_commands.proofs.Meeting.{asks_nothing, unread, unwritten}
+use Rattle.dm_commands.proofs.OwnDrilling.{own_never}
 use Rattle.dm_commands.proofs.Running as running
-use Rattle.dm_commands.specs.Asked.{Both, Named, Nothing, perhaps_both}
+use Rattle.dm_commands.specs.Asked.{Alone, Both, Named, Nothing, perhaps_both}
 use Rattle.dm_commands.specs.Checks.{CheckMeets, CheckSaying, CheckSays}
 use Rattle.dm_commands.specs.Commands.{CommandMeets, RefusesWords, Terms, named_in}
 use Rattle.dm_commands.specs.Drills.{CountSays, DrillMeets, DrillSaying, DrilledSays, SaysDrill}
 use Rattle.dm_commands.specs.Explains.{ExplainMeets}
 use Rattle.dm_commands.specs.Meets.{MeetsOutside, MeetsShelf, MeetsSink}
+use Rattle.dm_commands.specs.OwnDrills.{OwnSays}
 use Rattle.dm_commands.specs.Outside.{Around, SinkAround, Untouched}
 use Rattle.dm_run.specs.Notion.{Notion}
 use Rattle.dm_commands.specs.Runs.{RunMeets, RunSaying, RunSays}
@@ -49,6 +52,9 @@ lacks_meets t (Some (Chart boot schedule)) a world lack quiet fits h nothing = r
 lacks_meets t (Some (Explain boot schedule)) a world lack quiet fits h nothing =
     explaining.never_meets boot schedule a world (NoMemory lack) (explaining.wants_memory (a.shelf.told a.shelf.old) boot schedule (a.shelf.faults a.shelf.old) (a.shelf.faults a.shelf.new) lack)
     (unread (perhaps_both boot schedule) a.shelf (NoMemory lack) h.unread (asks_nothing (perhaps_both boot schedule) a.shelf h.unread nothing) (no_read lack)) h.unwritten h.no_world
+lacks_meets t (Some (Judge boot trace)) a world lack quiet fits h nothing =
+    never_judges t.trace boot trace a world (NoMemory lack) (lack_judged (a.shelf.told a.shelf.old) boot trace (a.shelf.faults a.shelf.old) (a.shelf.faults a.shelf.new) lack)
+    (unread (Both boot input.Trace trace) a.shelf (NoMemory lack) h.unread (asks_nothing (Both boot input.Trace trace) a.shelf h.unread nothing) (no_read lack)) h.unwritten h.no_world
 lacks_meets t (Some (Count boot schedule)) a world lack quiet fits h nothing =
     running.never_meets (CountSays t.run) boot schedule a world (NoMemory lack) tt (unread (Both boot input.Schedule schedule) a.shelf (NoMemory lack) h.unread (asks_nothing (Both boot input.Schedule schedule) a.shelf h.unread nothing) (no_read lack)) h.unwritten h.no_world
 lacks_meets t (Some (Drill d)) a world lack quiet fits h nothing = record {
@@ -59,6 +65,8 @@ lacks_meets t (Some (Drill d)) a world lack quiet fits h nothing = record {
   };
   shelf = unread Nothing a.shelf (NoMemory lack) h.unread h.unread (no_read lack);
 }
+lacks_meets t (Some (OwnDrill boot d)) a world lack quiet fits h nothing =
+    own_never (OwnSays t.run d) boot d a world (NoMemory lack) tt (unread (Alone input.Boot boot) a.shelf (NoMemory lack) h.unread (asks_nothing (Alone input.Boot boot) a.shelf h.unread nothing) (no_read lack)) h.unwritten h.no_world
 
 -- there are no words of a command
 pub no_request : {F K : Type 0} (t : Terms) (r : Option Request) (a : Around F K) (world : Option World) (reason : WordsError) → IsSilent (DrilledSays t.run) → Fits r → Untouched a world → ((name : List ℕ) → a.shelf.asked a.shelf.old name a.shelf.old) → (reason ≡ why.Usage → r ≡ None)
@@ -102,8 +110,10 @@ command_met t (Some (Run boot schedule)) a world s h = h.met
 command_met t (Some (Check boot trace)) a world s h = h.met
 command_met t (Some (Chart boot schedule)) a world s h = h.as_run.met
 command_met t (Some (Explain boot schedule)) a world s h = h.met
+command_met t (Some (Judge boot trace)) a world s h = h.met
 command_met t (Some (Count boot schedule)) a world s h = h.met
 command_met t (Some (Drill d)) a world s h = record { shelf = h.shelf; sink = h.meets.sink }
+command_met t (Some (OwnDrill boot d)) a world s h = h.met
 
 -- a drill says of no read that it failed, and is none of words that were refused
 pub drilled_unread : {K : Type 0} (r : Notion) (d : TheDrill) (k : SinkAround K) (world : Option World) (s : Status) → DrillMeets (DrilledSays r) d k world s → (i : Input) → s ≡ ReadFault i → ⊥

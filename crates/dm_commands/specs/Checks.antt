@@ -11,6 +11,7 @@ use Rattle.dm_check.specs.declared.fault.TraceFault.{TraceFault}
 use Rattle.dm_check.specs.Faults.{number_of_trace_fault}
 use Rattle.dm_check.specs.Good.{good_verdict}
 use Rattle.dm_check.specs.Judge.{Refused, Verdict}
+use Rattle.dm_check.specs.declared.refusal.WasDue.{WasDue}
 use Rattle.dm_ending.specs.declared.status.Input.TheVariants as input
 use Rattle.dm_ending.specs.declared.status.Status.{Status}
 use Rattle.dm_ending.specs.declared.status.Status.TheVariants as status
@@ -34,10 +35,12 @@ end_word true = codes " ended\n"
 abbrev pub good_line : ℕ → Bool → List ℕ
 good_line groups ended = codes "good " ++ decimal groups ++ end_word ended
 
--- what a trace of a system comes to: to this verdict; it is that of so many groups, with or without the lines at the end
+-- what a trace of a system comes to: to this verdict; it is that of so many groups, with or without the lines at the end; this was
+-- due in the line of this number
 pub record TraceMeans : Type 1 where
   pub comes_to : Boot → List ℕ → Verdict → Type 0
   pub is_of : Boot → List ℕ → ℕ → Bool → Type 0
+  pub due_in : Boot → List ℕ → ℕ → WasDue → Type 0
 
 -- the trace is good
 pub record IsGoodTrace (m : TraceMeans) (b : Boot) (bytes : List ℕ) (groups : ℕ) (ended : Bool) : Type 0 where

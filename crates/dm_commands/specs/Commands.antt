@@ -9,13 +9,15 @@ use Rattle.dm_ending.specs.declared.status.Status.{Status}
 use Rattle.dm_ending.specs.declared.status.Status.TheVariants.{Usage}
 use Rattle.dm_ending.specs.Status.{IsWant}
 use Rattle.dm_words.specs.DrillWords.{IsWithin}
-use Rattle.dm_words.specs.Request.{Request, Chart, Check, Count, Drill, Explain, Run}
+use Rattle.dm_words.specs.Request.{Request, Chart, Check, Count, Drill, Explain, Judge, OwnDrill, Run}
 use Rattle.dm_draw.specs.declared.drill.Drill.{Drill as TheDrill}
-use Rattle.dm_commands.specs.Asked.{Both, Named, Nothing, perhaps_both}
+use Rattle.dm_commands.specs.Asked.{Alone, Both, Named, Nothing, perhaps_both}
 use Rattle.dm_commands.specs.Charts.{ChartMeets, ChartSays}
 use Rattle.dm_commands.specs.Checks.{CheckMeets, CheckSays, TraceMeans}
 use Rattle.dm_commands.specs.Drills.{CountSays, DrillMeets, DrilledSays}
 use Rattle.dm_commands.specs.Explains.{ExplainMeets}
+use Rattle.dm_commands.specs.Judges.{JudgeMeets}
+use Rattle.dm_commands.specs.OwnDrills.{OwnMeets, OwnSays}
 use Rattle.dm_commands.specs.Meets.{MeetsShelf}
 use Rattle.dm_commands.specs.Outside.{Around, Untouched}
 use Rattle.dm_commands.specs.Runs.{RunMeets, RunSays}
@@ -43,8 +45,10 @@ CommandMeets t (Some (Run boot schedule)) a world s = RunMeets (RunSays t.run) b
 CommandMeets t (Some (Check boot trace)) a world s = CheckMeets (CheckSays t.trace) boot trace a world s
 CommandMeets t (Some (Chart boot schedule)) a world s = ChartMeets (ChartSays t.run) boot schedule a world s
 CommandMeets t (Some (Explain boot schedule)) a world s = ExplainMeets boot schedule a world s
+CommandMeets t (Some (Judge boot trace)) a world s = JudgeMeets t.trace boot trace a world s
 CommandMeets t (Some (Count boot schedule)) a world s = RunMeets (CountSays t.run) boot schedule a world s
 CommandMeets t (Some (Drill drill)) a world s = Drills t.run drill a world s
+CommandMeets t (Some (OwnDrill boot drill)) a world s = OwnMeets (OwnSays t.run drill) boot drill a world s
 
 -- the files that a request names
 abbrev pub named_in : Option Request → Named
@@ -53,5 +57,7 @@ named_in (Some (Run boot schedule)) = Both boot input.Schedule schedule
 named_in (Some (Check boot trace)) = Both boot input.Trace trace
 named_in (Some (Chart boot schedule)) = Both boot input.Schedule schedule
 named_in (Some (Explain boot schedule)) = perhaps_both boot schedule
+named_in (Some (Judge boot trace)) = Both boot input.Trace trace
 named_in (Some (Count boot schedule)) = Both boot input.Schedule schedule
 named_in (Some (Drill drill)) = Nothing
+named_in (Some (OwnDrill boot drill)) = Alone input.Boot boot

@@ -6,7 +6,9 @@ pub mod Meets
 pub mod Runs
 pub mod Checks
 pub mod Drills
+pub mod OwnDrills
 pub mod Charts
 pub mod Explains
+pub mod Judges
 pub mod Commands
 pub mod Says

@@ -68,7 +68,7 @@ fn say_good<K: Sink>(good: Good, out: &mut K) -> Status
 }
 
 /// The line of a good trace, with its line feed.
-fn good_line(good: Good) -> ArrayString<LONGEST_LINE>
+pub(crate) fn good_line(good: Good) -> ArrayString<LONGEST_LINE>
     ensures { result.bytes ≡ good_line good.groups good.ended }
 {
     let mut line = words("good ");

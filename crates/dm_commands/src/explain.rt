@@ -4,6 +4,7 @@ ghost use Rattle.dm_ending.specs.declared.status.Input.TheVariants as input_;
 ghost use Rattle.dm_commands.specs.Asked.{Alone, perhaps_both};
 ghost use Rattle.dm_commands.specs.Explains.{ExplainMeets, NoInputs, TellsFiles, TellsLines, TellsRead, TellsSchedule, Wrote};
 ghost use Rattle.dm_commands.specs.Inputs.{NoBoot, NoDirectives};
+ghost use Rattle.dm_commands.specs.Judges.{IsUntold};
 ghost use Rattle.dm_commands.specs.Meets.{MeetsShelf, MeetsSink, status_so_far};
 ghost use Rattle.dm_commands.specs.Outside.{around, shelf_around, sink_around};
 ghost use Rattle.dm_explain.specs.Explained.{IsToldValid};
@@ -20,9 +21,9 @@ use std::alloc::Global;
 
 /// What is said of files, and how the program ends that has said it.
 #[derive(Drop)]
-struct Told {
-    due: Status,
-    text: Vec<u8>,
+pub(crate) struct Told {
+    pub(crate) due: Status,
+    pub(crate) text: Vec<u8>,
 }
 
 /// Says what the boot file of the first name says, and the schedule of the second where there is one, or what is wrong with
@@ -45,7 +46,7 @@ pub fn explain_files<F: Shelf, K: Sink>(
 }
 
 /// Writes what is said of files.
-fn say<K: Sink>(told: &Told, out: &mut K) -> Status
+pub(crate) fn say<K: Sink>(told: &Told, out: &mut K) -> Status
     ensures wrote { Wrote told.now.due told.now.text.items (K.told out.old) (K.told out.new) (K.faults out.old) (K.faults out.new) result }
     ensures sink { (told.now.due ≡ Status.WriteFault → ⊥) → MeetsSink (sink_around K.told K.faults K.last_failed out.old out.new) result }
 {
@@ -88,10 +89,15 @@ fn tell_files<F: Shelf>(
 }
 
 /// What is said of the boot file of this name.
-fn tell_boot<F: Shelf>(alloc: Global, name: &str, shelf: &mut F) -> Result<BootTold, Status>
+pub(crate) fn tell_boot<F: Shelf>(
+    alloc: Global,
+    name: &str,
+    shelf: &mut F,
+) -> Result<BootTold, Status>
     ensures tells { IfOk result (λ t. TellsRead (F.told shelf.old) name.now t) }
     ensures valid { IfOk result IsToldValid }
     ensures none { IfErr result (λ s. NoBoot (F.told shelf.old) name.now (F.faults shelf.old) (F.faults shelf.new) s) }
+    ensures untold { IfErr result IsUntold }
     ensures shelf { MeetsShelf (Alone input_.Boot name.now)
         (shelf_around F.asked F.told F.faults F.last_failed shelf.old shelf.new) (status_so_far result) }
 {

@@ -77,7 +77,11 @@ pub fn read_trace_files<F: Shelf>(
 }
 
 /// The bytes of the trace of this name.
-fn read_trace<F: Shelf>(alloc: Global, name: &str, shelf: &mut F) -> Result<Vec<u8>, Status>
+pub(crate) fn read_trace<F: Shelf>(
+    alloc: Global,
+    name: &str,
+    shelf: &mut F,
+) -> Result<Vec<u8>, Status>
     ensures file { IfOk result (λ t. HasFile (F.told shelf.old) name.now most_trace t.items) }
     ensures none { IfErr result (λ s. NoBytes (F.told shelf.old) name.now (F.faults shelf.old) (F.faults shelf.new) s) }
     ensures shelf { MeetsShelf (Alone input_.Trace name.now)
@@ -92,7 +96,11 @@ fn read_trace<F: Shelf>(alloc: Global, name: &str, shelf: &mut F) -> Result<Vec<
 }
 
 /// The system that the boot file of this name says.
-fn read_system<F: Shelf>(alloc: Global, name: &str, shelf: &mut F) -> Result<Boot, Status>
+pub(crate) fn read_system<F: Shelf>(
+    alloc: Global,
+    name: &str,
+    shelf: &mut F,
+) -> Result<Boot, Status>
     ensures says { IfOk result (λ b. SaysBoot (F.told shelf.old) name.now b) }
     ensures valid { IfOk result (λ b. IsValid b) }
     ensures none { IfErr result (λ s. NoBoot (F.told shelf.old) name.now (F.faults shelf.old) (F.faults shelf.new) s) }

@@ -7,6 +7,8 @@ pub mod count;
 pub mod drill;
 pub mod explain;
 pub mod inputs;
+pub mod judge;
+pub mod own_drill;
 mod read;
 pub mod run;
 pub mod words;

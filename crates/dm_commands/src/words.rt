@@ -11,6 +11,8 @@ use crate::check::check_files;
 use crate::count::count_files;
 use crate::drill::drill;
 use crate::explain::explain_files;
+use crate::judge::judge_files;
+use crate::own_drill::drill_file;
 use crate::run::run_files;
 use dm_ending::status::Status;
 use dm_outside::{Shelf, Sink};
@@ -42,10 +44,14 @@ pub fn do_words<F: Shelf, K: Sink>(
         Ok(Request::Explain { boot, schedule }) => {
             explain_files(alloc, boot, schedule, shelf, out)
         }
+        Ok(Request::Judge { boot, trace }) => judge_files(alloc, boot, trace, shelf, out),
         Ok(Request::Count { boot, schedule }) => {
             count_files(alloc, boot, schedule, shelf, out, world)
         }
         Ok(Request::Drill(drawn)) => drill(alloc, &drawn, out, world),
+        Ok(Request::OwnDrill { boot, drill: drawn }) => {
+            drill_file(alloc, boot, &drawn, shelf, out, world)
+        }
         Err(no) => no.status(),
     }
 }

@@ -1,7 +1,8 @@
 -- What the commands say of the machines is so by the rule.
 use Rattle.dm_commands.proofs.Names.{◌≡◌, ℕ, List, subst, sym, length, Option, Some, None, TheNoMemory, Boot, Directive, All, IsFor, Request, Status, NoMemory, IsWithin, World, boot_of_machines, directives_of_drill, Drill}
 use Rattle.dm_draw.proofs.Valid.{boot_valid}
-use Rattle.dm_draw.proofs.Within.{boot_machines, directives_fit}
+use Rattle.dm_draw.proofs.Within.{boot_machines, directive_fits, directives_fit}
+use Rattle.dm_draw.specs.Directives.{directive_drawn}
 use Rattle.dm_words.proofs.Ranges.{Fits}
 use Rattle.dm_commands.proofs.Carrying.{CarriesTerms, carried}
 use Rattle.dm_commands.proofs.Drills.{all_for}
@@ -19,7 +20,7 @@ use Rattle.dm_program.specs.Rule.{of_rule}
 -- the directives of a drill are for its machines
 drill_for : (d : Drill) → IsWithin d → All (IsFor (length (boot_of_machines d.machines).machines)) (directives_of_drill d)
 drill_for d within =
-    subst (λ (n : ℕ). All (IsFor n) (directives_of_drill d)) (sym (boot_machines d.machines)) (all_for d.machines (directives_of_drill d) (directives_fit d.machines d.seed d.lines within.least))
+    subst (λ (n : ℕ). All (IsFor n) (directives_of_drill d)) (sym (boot_machines d.machines)) (all_for d.machines (directives_of_drill d) (directives_fit d.machines (directive_drawn d.machines) d.seed d.lines (λ x. directive_fits d.machines x within.least)))
 
 by_rule : CarriesTerms of_world of_rule
 by_rule = record {

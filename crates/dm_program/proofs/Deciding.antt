@@ -1,7 +1,10 @@
 -- Where no read and no write fails and memory is there, the files decide what a command comes to.
 use Rattle.dm_commands.proofs.Names.{◌≡◌, ◌⊎◌, inl, inr, ℕ, Bool, true, false, List, refl, ap, ap₂, sym, subst, ◌∙◌, Option, Some, None, Boot, Directive, RoseOrFull, appended, Verdict, good_verdict, HasTrace, NoFiles, NoTrace, AcceptsFiles, Drill as TheDrill}
-use Rattle.dm_commands.proofs.Names.{BlamesSink, IsWant, Input, Status, Done, Usage, ReadFault, NoMemory, WriteFault, BootRefused, ScheduleRefused, TooLong, Worn, TraceRefused, Request, Chart, Check, Count, Explain, Run, boot_of_machines, directives_of_drill}
-use Rattle.dm_words.specs.Request.{Drill}
+use Rattle.dm_commands.proofs.Names.{BlamesSink, IsWant, Input, Status, Done, Usage, ReadFault, NoMemory, WriteFault, BootRefused, ScheduleRefused, TooLong, Worn, TraceRefused, Request, Chart, Check, Count, Explain, Judge, Run, boot_of_machines, directives_of_drill}
+use Rattle.dm_words.specs.Request.{Drill, OwnDrill}
+use Rattle.dm_draw.specs.declared.drill.OwnDrill.{OwnDrill as TheOwnDrill}
+use Rattle.dm_draw.specs.declared.drill.Shows.{Shows}
+use Rattle.dm_draw.specs.declared.drill.Shows.TheVariants as shows
 use Rattle.dm_drill.specs.declared.report.Report.{Report}
 use Rattle.dm_drill.specs.declared.report.Report.TheVariants as report
 use Rattle.dm_check.specs.Faults.{number_of_trace_fault}
@@ -14,11 +17,14 @@ use Rattle.dm_commands.specs.Charts.{ChartSays}
 use Rattle.dm_commands.specs.Checks.{CheckSays, SaysCheck, good_line}
 use Rattle.dm_commands.specs.Commands.{CommandMeets}
 use Rattle.dm_commands.specs.Drills.{CountSays, CountedSays, DrilledSays, report_of}
+use Rattle.dm_commands.proofs.OwnDrilling.{only_lack}
+use Rattle.dm_commands.specs.Inputs.{SaysBoot}
+use Rattle.dm_commands.specs.OwnDrills.{RunOwnSays, ScheduleSays, SaysOwn, ShownSays, directives_for, own_report}
 use Rattle.dm_commands.specs.Outside.{Around, Outside, outside}
 use Rattle.dm_commands.specs.Runs.{RunSaying, RunSays, SaysRun}
 use Rattle.dm_world.specs.declared.world.World.{World}
 use Rattle.dm_program.proofs.Runs.Endings.{wears_after, worn_same}
-use Rattle.dm_program.specs.Decided.{Accepts, CheckIsDecided, DrillIsDecided, Finds, GivesGood, GivesRefused, IsDecided, RunIsDecided}
+use Rattle.dm_program.specs.Decided.{Accepts, CheckIsDecided, DrillIsDecided, Finds, GivesGood, GivesRefused, IsDecided, OwnIsDecided, OwnRunIsDecided, RunIsDecided}
 use Rattle.dm_program.specs.Printed.{Lasts, Wears, by_rule}
 use Rattle.dm_program.specs.Rule.{of_rule, traced_by_rule}
 
@@ -195,6 +201,52 @@ check_decided boot trace o s says sink = record {
   ];
 }
 
+-- a boot file says one system
+said_same : (boot : List ℕ) (told : Option Files) (files : Files) (b c : Boot) → told ≡ Some files → SaysBoot told boot b → SaysBoot (Some files) boot c → b ≡ c
+said_same boot told files b c is h k = same_boot files boot boot b c refl (subst (λ f. SaysBoot f boot b) is h) k
+
+-- a drill of a boot file's system
+own_run_decided : (tr : Bool) (boot : List ℕ) (d : TheOwnDrill) (o : Outside) (s : Status) → SaysOwn (RunOwnSays by_rule tr d) boot d o s → BlamesSink o.writes_before o.writes_after s → OwnRunIsDecided boot d o s
+own_run_decided tr boot d o s says sink = record {
+  completes = λ files b told gives lasts never. elim says [
+    | inl r ↦
+        let same : r.system ≡ b = said_same boot o.files files r.system b told r.says_boot gives in
+        let ds = directives_for r.system d in
+        to_end (CountedSays by_rule tr (own_report r.system d) r.system ds o.before o.after o.world) r.system ds o.writes_before o.writes_after s (counted_tells tr (own_report r.system d) r.system ds o.before o.after o.world) r.says sink
+        (subst (λ (x : Boot). Lasts x (directives_for x d)) (sym same) lasts) never.writes
+    | inr n ↦ inr (only_lack boot o.files files o.reads_before o.reads_after b s told n.why gives never.reads)
+  ];
+  wears = λ files b from to told gives wears never. elim says [
+    | inl r ↦
+        let same : r.system ≡ b = said_same boot o.files files r.system b told r.says_boot gives in
+        let ds = directives_for r.system d in
+        to_worn (CountedSays by_rule tr (own_report r.system d) r.system ds o.before o.after o.world) r.system ds o.writes_before o.writes_after s from to (counted_tells tr (own_report r.system d) r.system ds o.before o.after o.world) r.says sink
+        (subst (λ (x : Boot). Wears x (directives_for x d) from to) (sym same) wears) never.writes
+    | inr n ↦ inr (only_lack boot o.files files o.reads_before o.reads_after b s told n.why gives never.reads)
+  ];
+}
+
+-- directives that are written alone
+written_so : (b : Boot) (ds : List Directive) (before after : Option (List ℕ)) (world : Option World) (old new : ℕ) (s : Status) → ScheduleSays b ds before after world s → BlamesSink old new s → (RoseOrFull old new → ⊥) → (s ≡ Done) ⊎ IsWant s
+written_so b ds before after world old new Done h k q = inl refl
+written_so b ds before after world old new Usage h k q = absurd h
+written_so b ds before after world old new (ReadFault i) h k q = absurd h
+written_so b ds before after world old new (NoMemory lack) h k q = inr (lack, refl)
+written_so b ds before after world old new WriteFault h k q = absurd (q k)
+written_so b ds before after world old new (BootRefused number place) h k q = absurd h
+written_so b ds before after world old new (ScheduleRefused line why) h k q = absurd h
+written_so b ds before after world old new (TooLong i) h k q = absurd h
+written_so b ds before after world old new (Worn from to) h k q = absurd h
+written_so b ds before after world old new (TraceRefused line why) h k q = absurd h
+
+own_decided : (shown : Shows) (boot : List ℕ) (d : TheOwnDrill) (o : Outside) (s : Status) → SaysOwn (ShownSays by_rule d shown) boot d o s → BlamesSink o.writes_before o.writes_after s → OwnIsDecided shown boot d o s
+own_decided shows.Summary boot d o s says sink = own_run_decided false boot d o s says sink
+own_decided shows.Groups boot d o s says sink = own_run_decided true boot d o s says sink
+own_decided shows.Directives boot d o s says sink = λ files b told gives never. elim says [
+  | inl r ↦ written_so r.system (directives_for r.system d) o.before o.after o.world o.writes_before o.writes_after s r.says sink never.writes
+  | inr n ↦ inr (only_lack boot o.files files o.reads_before o.reads_after b s told n.why gives never.reads)
+]
+
 -- whatever the words ask for
 pub decided : {F K : Type 0} (r : Option Request) (a : Around F K) (world : Option World) (s : Status) → CommandMeets of_rule r a world s → IsDecided r (outside a world) s
 decided None a world s h = tt
@@ -202,6 +254,7 @@ decided (Some (Run boot schedule)) a world s h = run_decided (RunSays by_rule) b
 decided (Some (Check boot trace)) a world s h = check_decided boot trace (outside a world) s h.says h.met.sink.blames
 decided (Some (Chart boot schedule)) a world s h = run_decided (ChartSays by_rule) boot schedule (outside a world) s (λ b ds. chart_tells b ds _ _ world) h.as_run.says h.as_run.met.sink.blames
 decided (Some (Explain boot schedule)) a world s h = tt
+decided (Some (Judge boot trace)) a world s h = tt
 decided (Some (Count boot schedule)) a world s h = run_decided (CountSays by_rule) boot schedule (outside a world) s (λ b ds. counted_tells false report.OfRun b ds _ _ world) h.says h.met.sink.blames
 decided (Some (Drill d)) a world s h =
     let b = boot_of_machines d.machines in
@@ -211,3 +264,4 @@ decided (Some (Drill d)) a world s h =
       completes = λ lasts never. to_end (DrilledSays by_rule d b ds (a.sink.told a.sink.old) (a.sink.told a.sink.new) world) b ds (a.sink.faults a.sink.old) (a.sink.faults a.sink.new) s tells h.meets.says h.meets.sink.blames lasts never.writes;
       wears = λ from to wears never. to_worn (DrilledSays by_rule d b ds (a.sink.told a.sink.old) (a.sink.told a.sink.new) world) b ds (a.sink.faults a.sink.old) (a.sink.faults a.sink.new) s from to tells h.meets.says h.meets.sink.blames wears never.writes;
     }
+decided (Some (OwnDrill boot d)) a world s h = own_decided d.shows boot d (outside a world) s h.says h.met.sink.blames

@@ -4,7 +4,7 @@ use Rattle.std.proofs.Common.{zero}
 use Rattle.std.proofs.lemmas.List.{append-nil}
 use Rattle.std.proofs.lemmas.List.Elements.{All-append}
 use Rattle.dm_draw.proofs.Drawing.{drawn_next, drawn_none}
-use Rattle.dm_draw.proofs.Names.{deliver_drawn, directives_drawn, drawn, migrate_drawn, round_drawn, state_behind, stepped, tick_drawn, turn_drawn}
+use Rattle.dm_draw.proofs.Names.{Drawn, deliver_drawn, directives_by, drawn, migrate_drawn, round_drawn, state_behind, stepped, tick_drawn, turn_drawn}
 use Rattle.dm_draw.proofs.Valid.{boot_valid}
 use Rattle.dm_draw.proofs.Within.{boot_machines, drawn_below}
 use Rattle.dm_draw.proofs.Within as within_
@@ -41,18 +41,19 @@ home_fits n x least = go (nat_lt (drawn 8 x) 3) (drawn 8 x == 3) (drawn 8 x == 4
     go false false false true = tt
     go false false false false = tt
 
-homes_fit : (n x k : ℕ) → 2 ≤ n → All (HasHome n) (directives_drawn n x k)
-homes_fit n x zero least = subst (All (HasHome n)) (sym (drawn_none n x)) (All-nil (HasHome n))
-homes_fit n x (suc k) least =
-    let d : Directive = (directive_drawn n (state_behind n x k)).directive in
-    subst (All (HasHome n)) (sym (drawn_next n x k)) (All-append (HasHome n) (directives_drawn n x k) (d ∷ []) (homes_fit n x k least) (All-cons (HasHome n) d [] (home_fits n (state_behind n x k) least) (All-nil (HasHome n))))
+-- what holds of each draw, holds of all directives that are drawn
+pub each_drawn : (Holds : Directive → Type 0) (draw : ℕ → Drawn) (x k : ℕ) → ((s : ℕ) → Holds (draw s).directive) → All Holds (directives_by draw x k)
+each_drawn Holds draw x zero each = subst (All Holds) (sym (drawn_none draw x)) (All-nil Holds)
+each_drawn Holds draw x (suc k) each =
+    let d : Directive = (draw (state_behind draw x k)).directive in
+    subst (All Holds) (sym (drawn_next draw x k)) (All-append Holds (directives_by draw x k) (d ∷ []) (each_drawn Holds draw x k each) (All-cons Holds d [] (each (state_behind draw x k)) (All-nil Holds)))
 
 -- and each directive is for the machines
 each_for : (d : Drill) → IsWithin d → All (IsDirective (length (boot_of_machines d.machines).machines)) (directives_of_drill d)
 each_for d within =
     let n = d.machines in
     let ds = directives_of_drill d in
-    subst (λ (k : ℕ). All (IsDirective k) ds) (sym (boot_machines n)) (directives_fit n ds (all_for n ds (within_.directives_fit n d.seed d.lines within.least)))
+    subst (λ (k : ℕ). All (IsDirective k) ds) (sym (boot_machines n)) (directives_fit n ds (all_for n ds (within_.directives_fit n (directive_drawn n) d.seed d.lines (λ x. within_.directive_fits n x within.least))))
 
 pub drills_may_start : DrillsMayStart
 drills_may_start d within = record { valid = boot_valid d.machines within.least within.most; within = each_for d within }
@@ -64,12 +65,12 @@ groups_open d within groups end left good fits =
     let b = boot_of_machines n in
     let ds = directives_of_drill d in
     let same : length b.machines ≡ n = boot_machines n in
-    let homes : All (HasHome (length b.machines)) ds = subst (λ (k : ℕ). All (HasHome k) ds) (sym same) (homes_fit n d.seed d.lines within.least) in
+    let homes : All (HasHome (length b.machines)) ds = subst (λ (k : ℕ). All (HasHome k) ds) (sym same) (each_drawn (HasHome n) (directive_drawn n) d.seed d.lines (λ x. home_fits n x within.least)) in
     let all : IsGood b ds (groups ++ []) end left = subst (λ (gs : List (List Line)). IsGood b ds gs end left) (sym (append-nil groups)) good in
     beginnings_open b ds groups [] end left (each_for d within) homes all fits
 
 -- from nothing on, what was appended is what is there
-from_nothing : (before after : Option (List ℕ)) (bytes : List ℕ) → before ≡ Some [] → after ≡ appended before bytes → after ≡ Some bytes
+pub from_nothing : (before after : Option (List ℕ)) (bytes : List ℕ) → before ≡ Some [] → after ≡ appended before bytes → after ≡ Some bytes
 from_nothing before after bytes none written = written ∙ ap (λ (o : Option (List ℕ)). appended o bytes) none
 
 shown : (trace : Bool) (ls : List Line) → trace ≡ true → text_shown trace ls ≡ text_of_lines ls

@@ -6,4 +6,5 @@ mod NoWords
 mod Sound
 mod RunsChecked
 mod DrillsChecked
+mod OwnDrilled
 mod TracesFor

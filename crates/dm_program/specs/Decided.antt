@@ -7,15 +7,19 @@ use Rattle.dm_schedule.specs.declared.Directive.{Directive}
 use Rattle.dm_outside.specs.Outside.{appended}
 use Rattle.dm_draw.specs.Boot.{boot_of_machines}
 use Rattle.dm_draw.specs.declared.drill.Drill.{Drill as TheDrill}
+use Rattle.dm_draw.specs.declared.drill.OwnDrill.{OwnDrill as TheOwnDrill}
+use Rattle.dm_draw.specs.declared.drill.Shows.{Shows}
+use Rattle.dm_draw.specs.declared.drill.Shows.TheVariants as shows
 use Rattle.dm_ending.specs.declared.status.Status.{Status}
 use Rattle.dm_ending.specs.declared.status.Status.TheVariants.{Done, TraceRefused, Worn}
 use Rattle.dm_ending.specs.Status.{IsWant}
-use Rattle.dm_words.specs.Request.{Request, Chart, Check, Count, Drill, Explain, Run}
+use Rattle.dm_words.specs.Request.{Request, Chart, Check, Count, Drill, Explain, Judge, OwnDrill, Run}
 use Rattle.dm_check.specs.Good.{good_verdict}
 use Rattle.dm_checklaws.specs.Verdict.{verdict}
 use Rattle.dm_commands.specs.Checks.{HasTrace, RefusesTrace, good_line}
 use Rattle.dm_commands.specs.Drills.{directives_of_drill}
-use Rattle.dm_commands.specs.Inputs.{AcceptsFiles}
+use Rattle.dm_commands.specs.Inputs.{AcceptsFiles, SaysBoot}
+use Rattle.dm_commands.specs.OwnDrills.{directives_for}
 use Rattle.dm_commands.specs.Outside.{NeverFails, NeverReadsBadly, Outside}
 use Rattle.dm_program.specs.Printed.{Lasts, Wears}
 use Rattle.dm_program.specs.Rule.{traced_by_rule}
@@ -71,6 +75,17 @@ pub record DrillIsDecided (d : TheDrill) (o : Outside) (s : Status) : Type 0 whe
   pub completes : Lasts (boot_of_machines d.machines) (directives_of_drill d) → NeverFails o → (s ≡ Done) ⊎ IsWant s
   pub wears : (from to : ℕ) → Wears (boot_of_machines d.machines) (directives_of_drill d) from to → NeverFails o → (s ≡ Worn from to) ⊎ IsWant s
 
+-- so it is with a drill of a boot file's system, if the file gives one, where it is run
+pub record OwnRunIsDecided (boot : List ℕ) (d : TheOwnDrill) (o : Outside) (s : Status) : Type 0 where
+  pub completes : (files : List ℕ → Option (List ℕ)) (b : Boot) → o.files ≡ Some files → SaysBoot (Some files) boot b → Lasts b (directives_for b d) → NeverFails o → (s ≡ Done) ⊎ IsWant s
+  pub wears : (files : List ℕ → Option (List ℕ)) (b : Boot) (from to : ℕ) → o.files ≡ Some files → SaysBoot (Some files) boot b → Wears b (directives_for b d) from to → NeverFails o → (s ≡ Worn from to) ⊎ IsWant s
+
+-- where its directives are written alone, nothing wears
+abbrev pub OwnIsDecided : Shows → List ℕ → TheOwnDrill → Outside → Status → Type 0
+OwnIsDecided shows.Summary boot d o s = OwnRunIsDecided boot d o s
+OwnIsDecided shows.Groups boot d o s = OwnRunIsDecided boot d o s
+OwnIsDecided shows.Directives boot d o s = (files : List ℕ → Option (List ℕ)) (b : Boot) → o.files ≡ Some files → SaysBoot (Some files) boot b → NeverFails o → (s ≡ Done) ⊎ IsWant s
+
 -- a row a command: what `explain` comes to is among what it promises
 abbrev pub IsDecided : Option Request → Outside → Status → Type 0
 IsDecided None o s = ⊤
@@ -78,5 +93,7 @@ IsDecided (Some (Run boot schedule)) o s = RunIsDecided boot schedule o s
 IsDecided (Some (Check boot trace)) o s = CheckIsDecided boot trace o s
 IsDecided (Some (Chart boot schedule)) o s = RunIsDecided boot schedule o s
 IsDecided (Some (Explain boot schedule)) o s = ⊤
+IsDecided (Some (Judge boot trace)) o s = ⊤
 IsDecided (Some (Count boot schedule)) o s = RunIsDecided boot schedule o s
 IsDecided (Some (Drill d)) o s = DrillIsDecided d o s
+IsDecided (Some (OwnDrill boot d)) o s = OwnIsDecided d.shows boot d o s

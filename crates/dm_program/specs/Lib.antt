@@ -3,4 +3,5 @@ pub mod Rule
 pub mod Decided
 pub mod Program
 pub mod Laws
+pub mod OwnLaws
 pub mod Theorem

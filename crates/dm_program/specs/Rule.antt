@@ -1,14 +1,16 @@
 -- What the commands say, by the rule.
 use Rattle.std.specs.Prelude.{◌≡◌}
+use Rattle.std.specs.declared.option.Option.TheVariants.{Some}
+use Rattle.dm_checklaws.specs.DueStands.{due_by_rule}
 use Rattle.dm_checklaws.specs.Good.{IsTrace}
 use Rattle.dm_checklaws.specs.Verdict.{verdict}
 use Rattle.dm_commands.specs.Checks.{TraceMeans}
 use Rattle.dm_commands.specs.Commands.{Terms}
 use Rattle.dm_program.specs.Printed.{by_rule}
 
--- of a trace: its verdict, and that it is the text of good lines
+-- of a trace: its verdict, that it is the text of good lines, and what was due in a line of it
 abbrev pub traced_by_rule : TraceMeans
-traced_by_rule = record { comes_to = λ b bytes v. verdict b bytes ≡ v; is_of = IsTrace }
+traced_by_rule = record { comes_to = λ b bytes v. verdict b bytes ≡ v; is_of = IsTrace; due_in = λ b bytes line due. due_by_rule b bytes line ≡ Some due }
 
 abbrev pub of_rule : Terms
 of_rule = record { run = by_rule; trace = traced_by_rule }

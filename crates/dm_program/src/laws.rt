@@ -1,5 +1,6 @@
 //! What the commands promise together: the theorem on a run, and what the checker says of what the others write.
 ghost use Rattle.dm_program.specs.Laws.{DrillsCheck, DrillsMayStart, RunsCheck, TracesAreFor, WornRunsCheck};
+ghost use Rattle.dm_program.specs.OwnLaws.{OwnDrillsAreFor, OwnDrillsCheck, SchedulesAreTaken};
 ghost use Rattle.dm_program.specs.Theorem.{RunsAreSound};
 
 /// Whatever the files say, a run that ends with status 0 wrote the text of groups of lines, one for each directive, whose labels are a run
@@ -31,4 +32,19 @@ pub fn drills_may_start()
 /// The directives that the heads of a good trace are, are for the machines of its boot file: so each law of good groups speaks of a trace's.
 pub fn traces_are_for()
     ensures { TracesAreFor }
+{}
+
+/// What `drill --schedule` writes of a boot file's system is a schedule for it: `run` and all others read it as the directives that were drawn.
+pub fn schedules_are_taken()
+    ensures { SchedulesAreTaken }
+{}
+
+/// What `drill --trace` writes of the groups of a boot file's system, without the summary, is good, open.
+pub fn own_drills_check()
+    ensures { OwnDrillsCheck }
+{}
+
+/// The directives that are drawn for a boot file's system are for its machines: so each law of good groups speaks of such a drill's.
+pub fn own_drills_are_for()
+    ensures { OwnDrillsAreFor }
 {}

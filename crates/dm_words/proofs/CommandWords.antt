@@ -53,10 +53,12 @@ pub both_found : (asked : Text → Text → Request) (one other : Text) (f : Fou
 both_found asked one other f first second is also = sym (ap₂ (both_files asked) (is ∙ first_value-rows f one) (also ∙ first_value-rows f other))
 
 pub no_explain : (f : Found) (first : Option Text) → first ≡ first_value f (codes "boot") → first ≡ None → explain_request (rows_of f) ≡ None
-no_explain f first is none = ap (λ o. explaining o (first_of (codes "schedule") (rows_of f))) (sym (first_value-rows f (codes "boot")) ∙ sym is ∙ none)
+no_explain f first is none = ap (λ o. explaining o (first_of (codes "schedule") (rows_of f)) (first_of (codes "trace") (rows_of f))) (sym (first_value-rows f (codes "boot")) ∙ sym is ∙ none)
 
-pub explain_found : (f : Found) (first second : Option Text) → first ≡ first_value f (codes "boot") → second ≡ first_value f (codes "schedule") → explain_request (rows_of f) ≡ explaining first second
-explain_found f first second is also = sym (ap₂ explaining (is ∙ first_value-rows f (codes "boot")) (also ∙ first_value-rows f (codes "schedule")))
+pub explain_found : (f : Found) (first second third : Option Text) → first ≡ first_value f (codes "boot") → second ≡ first_value f (codes "schedule") → third ≡ first_value f (codes "trace") → explain_request (rows_of f) ≡ explaining first second third
+explain_found f first second third is also last =
+    sym (ap₂ (λ (a b : Option Text). explaining a b third) (is ∙ first_value-rows f (codes "boot")) (also ∙ first_value-rows f (codes "schedule"))
+    ∙ ap (λ (o : Option Text). explaining (first_of (codes "boot") (rows_of f)) (first_of (codes "schedule") (rows_of f)) o) (last ∙ first_value-rows f (codes "trace")))
 
 -- what is asked for by the name and the matches of the subcommand that was used
 pub used_rows : {B : Type 0} (name : B → Text) (rows : B → List Row) (o : Option B) (n : Text) (rs : List Row) → Some n ≡ option_map name o → Some rs ≡ option_map (λ (p : Text × List Row). p.1) (option_map (λ b. (name b, rows b)) o) → option_and_then request_at (option_map (λ b. (name b, rows b)) o) ≡ request_at (n, rs)

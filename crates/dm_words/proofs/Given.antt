@@ -6,8 +6,9 @@ use Rattle.dm_words.proofs.Names.{flag_met, idle, is_empty, is_pending, has_row,
 use Rattle.dm_words.proofs.Names.{reacted, reading_by, refused, settled, settled_rows, short_met, short_or_plain, stop_after, subcommand, subcommand_met, subcommand_or_other, takes_several, takes_values, to_positional, trailing, used}
 use Rattle.dm_words.proofs.Names.{used_as, used_by_id, value, values_or_missing, waits, walk, walk_from, walked, walked_from, with_default, with_values, without, word_met, done, check_kinds, or_else, range_kinds, is_given, action_fault}
 use Rattle.dm_words.proofs.Names.{bundle_step_fault, check_fault, defaults_fault, entered_fault, flag_word_fault, flags_fault, level_fault, long_fault, option_fault, other_fault, positional_fault, react_fault, settle_fault, short_fault}
-use Rattle.dm_words.proofs.Names.{step_fault, stray_fault, use_fault, walk_fault, word_fault, Shape, argument_words, built, entered, label_of, labels_of, rows_at, ValueSource, DefaultValue, CommandLine, Reading, drawn_by, lines_asked}
-use Rattle.dm_words.proofs.Names.{machines_asked, seed_of, trace_of, explaining, both_files, Request, Chart, Check, Count, Explain, Run, run_command, AreTaken, IsTaken, demosmp, request_at, request_of, Some, Drill}
+use Rattle.dm_words.proofs.Names.{step_fault, stray_fault, use_fault, walk_fault, word_fault, Shape, argument_words, built, entered, label_of, labels_of, rows_at, ValueSource, DefaultValue, CommandLine, Reading, drill_by, has_system, lines_asked, own_by, run_by, schedule_of, shows_by}
+use Rattle.dm_words.proofs.Names.{machines_asked, seed_of, trace_of, explaining, both_files, Request, Chart, Check, Count, Explain, Judge, Run, run_command, AreTaken, IsTaken, demosmp, request_at, request_of, Some, Drill, OwnDrill}
+use Rattle.dm_draw.specs.declared.drill.Shows.TheVariants as shows
 use Rattle.clap.specs.Walk.{Text}
 use Rattle.clap.specs.Kinds.{Kinds}
 use Rattle.clap.specs.Faults.{fault_of}
@@ -304,7 +305,7 @@ each_of_chart : Each chart_built.rules
 each_of_chart = (inl (refl, refl), (inl (refl, refl), (inr refl, tt)))
 
 each_of_explain : Each explain_built.rules
-each_of_explain = (inl (refl, refl), (inl (refl, refl), (inr refl, tt)))
+each_of_explain = (inl (refl, refl), (inl (refl, refl), (inl (refl, refl), (inr refl, tt))))
 
 each_of_count : Each count_built.rules
 each_of_count = (inl (refl, refl), (inl (refl, refl), (inr refl, tt)))
@@ -364,28 +365,56 @@ chart_asks words e values =
     let names = names_both chart_built (codes "boot") (codes "schedule") words each_of_chart (λ rows. refl) e in
     (Chart names.first.0 names.second.0, ap₂ (both_files (λ boot schedule. Chart boot schedule)) names.first.1 names.second.1)
 
+-- a boot file is named, and no schedule and trace together
+explain_there : (boot : Text) (schedule trace : Option Text) → not (is_some schedule && is_some trace) ≡ true → (r : Request) × (explaining (Some boot) schedule trace ≡ Some r)
+explain_there boot schedule None e = (Explain boot schedule, refl)
+explain_there boot None (Some trace) e = (Judge boot trace, refl)
+explain_there boot (Some schedule) (Some trace) e = cc
+
 explain_asks : Asks explain_built
 explain_asks words e values =
     let named = names_first explain_built (codes "boot") words each_of_explain (λ rows. refl) e in
-    let other : Option Text = first_of (codes "schedule") (matched explain_built words) in
-    (Explain named.0 other, ap (λ (o : Option Text). explaining o other) named.1)
+    let schedule : Option Text = first_of (codes "schedule") (matched explain_built words) in
+    let trace : Option Text = first_of (codes "trace") (matched explain_built words) in
+    let there = explain_there named.0 schedule trace values in
+    (there.0, ap (λ (o : Option Text). explaining o schedule trace) named.1 ∙ there.1)
 
 count_asks : Asks count_built
 count_asks words e values =
     let names = names_both count_built (codes "boot") (codes "schedule") words each_of_count (λ rows. refl) e in
     (Count names.first.0 names.second.0, ap₂ (both_files (λ boot schedule. Count boot schedule)) names.first.1 names.second.1)
 
--- a command that takes three numbers draws a drill of them
-all_there : (trace : Bool) (seed machines lines : Option ℕ) → is_some seed && (is_some machines && is_some lines) ≡ true → (r : Request) × (drawn_by trace seed machines lines ≡ Some r)
-all_there trace (Some seed) (Some machines) (Some lines) e = (Drill (record { seed = seed; machines = machines; lines = lines; trace = trace }), refl)
-all_there trace (Some seed) (Some machines) None e = cc
-all_there trace (Some seed) None lines e = cc
-all_there trace None machines lines e = cc
+-- a command that takes the numbers of a drill does it, of a system that is drawn or of a boot file's
+drawn_there : (schedule trace : Bool) (seed machines lines : Option ℕ) → is_some seed && (is_some lines && (is_some machines && not schedule)) ≡ true → (r : Request) × (run_by schedule trace seed machines lines ≡ Some r)
+drawn_there false trace (Some seed) (Some machines) (Some lines) e = (Drill (record { seed = seed; machines = machines; lines = lines; trace = trace }), refl)
+drawn_there true trace (Some seed) (Some machines) (Some lines) e = cc
+drawn_there schedule trace (Some seed) (Some machines) None e = cc
+drawn_there schedule trace (Some seed) None (Some lines) e = cc
+drawn_there schedule trace (Some seed) None None e = cc
+drawn_there schedule trace None machines lines e = cc
+
+own_there : (boot : Text) (trace schedule : Bool) (seed lines : Option ℕ) → is_some seed && (is_some lines && not (trace && schedule)) ≡ true → (r : Request) × (own_by boot (shows_by trace schedule) seed lines ≡ Some r)
+own_there boot false false (Some seed) (Some lines) e = (OwnDrill boot (record { seed = seed; lines = lines; shows = shows.Summary }), refl)
+own_there boot true false (Some seed) (Some lines) e = (OwnDrill boot (record { seed = seed; lines = lines; shows = shows.Groups }), refl)
+own_there boot false true (Some seed) (Some lines) e = (OwnDrill boot (record { seed = seed; lines = lines; shows = shows.Directives }), refl)
+own_there boot true true (Some seed) (Some lines) e = cc
+own_there boot trace schedule (Some seed) None e = cc
+own_there boot trace schedule None lines e = cc
+
+nothing_there : (seed lines : Option ℕ) → is_some seed && (is_some lines && false) ≡ true → ⊥
+nothing_there (Some seed) (Some lines) e = cc
+nothing_there (Some seed) None e = cc
+nothing_there None lines e = cc
+
+all_there : (boot machines : Option Text) (rows : List Row) → is_some (seed_of rows) && (is_some (lines_asked rows) && has_system boot machines rows) ≡ true → (r : Request) × (drill_by boot machines rows ≡ Some r)
+all_there None machines rows e = drawn_there (schedule_of rows) (trace_of rows) (seed_of rows) (machines_asked rows) (lines_asked rows) e
+all_there (Some boot) None rows e = own_there boot (trace_of rows) (schedule_of rows) (seed_of rows) (lines_asked rows) e
+all_there (Some boot) (Some machines) rows e = absurd (nothing_there (seed_of rows) (lines_asked rows) e)
 
 drill_asks : Asks drill_built
 drill_asks words e values =
     let rows : List Row = (rows_at drill_built words).1 in
-    all_there (trace_of rows) (seed_of rows) (machines_asked rows) (lines_asked rows) values
+    all_there (first_of (codes "boot") rows) (first_of (codes "machines") rows) rows values
 
 -- ---- the command line
 

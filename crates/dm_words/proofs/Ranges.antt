@@ -10,10 +10,11 @@ use Rattle.dm_text.specs.Reading.{read_u32, read_u8}
 use Rattle.dm_words.specs.ChartWords.{chart_request}
 use Rattle.dm_words.specs.CheckWords.{check_request}
 use Rattle.dm_words.specs.CountWords.{count_request}
-use Rattle.dm_words.specs.DrillWords.{IsWithin, drawn_by, drill_request, if_within, lines_asked, machines_asked, seed_of, trace_of}
+use Rattle.dm_words.specs.DrillWords.{IsWithin, OwnIsWithin, drawn_by, drill_by, drill_request, if_within, lines_asked, machines_asked, own_by, run_by, schedule_of, seed_of, shows_by, trace_of}
+use Rattle.dm_draw.specs.declared.drill.Shows.{Shows}
 use Rattle.dm_words.specs.ExplainWords.{explaining}
 use Rattle.dm_words.specs.FileWords.{both_files}
-use Rattle.dm_words.specs.Request.{Request, Chart, Check, Count, Drill, Explain, Run}
+use Rattle.dm_words.specs.Request.{Request, Chart, Check, Count, Drill, Explain, Judge, OwnDrill, Run}
 use Rattle.dm_words.specs.RunWords.{run_request}
 use Rattle.dm_words.specs.Words.{Command, commands, demosmp, request_at, request_in, request_of}
 
@@ -24,8 +25,10 @@ Fits (Some (Run boot schedule)) = ⊤
 Fits (Some (Check boot trace)) = ⊤
 Fits (Some (Chart boot schedule)) = ⊤
 Fits (Some (Explain boot schedule)) = ⊤
+Fits (Some (Judge boot trace)) = ⊤
 Fits (Some (Count boot schedule)) = ⊤
 Fits (Some (Drill drill)) = IsWithin drill
+Fits (Some (OwnDrill boot drill)) = OwnIsWithin drill
 
 -- a number, if there is one, is one of these
 abbrev IsBetween : ℕ → ℕ → Option ℕ → Type 0
@@ -54,14 +57,26 @@ drawn_fits trace (Some seed) (Some machines) None h k = tt
 drawn_fits trace (Some seed) None lines h k = tt
 drawn_fits trace None machines lines h k = tt
 
+run_fits_by : (schedule trace : Bool) (seed machines lines : Option ℕ) → IsBetween 2 16 machines → IsBetween 1 10000 lines → Fits (run_by schedule trace seed machines lines)
+run_fits_by true trace seed machines lines h k = tt
+run_fits_by false trace seed machines lines h k = drawn_fits trace seed machines lines h k
+
+own_fits_by : (boot : List ℕ) (shown : Option Shows) (seed lines : Option ℕ) → IsBetween 1 10000 lines → Fits (own_by boot shown seed lines)
+own_fits_by boot (Some shown) (Some seed) (Some lines) k = k.1
+own_fits_by boot (Some shown) (Some seed) None k = tt
+own_fits_by boot (Some shown) None lines k = tt
+own_fits_by boot None seed lines k = tt
+
 both_fit : (asked : List ℕ → List ℕ → Request) (one other : Option (List ℕ)) → ((x y : List ℕ) → Fits (Some (asked x y))) → Fits (both_files asked one other)
 both_fit asked (Some one) (Some other) h = h one other
 both_fit asked (Some one) None h = tt
 both_fit asked None other h = tt
 
-explain_fits : (boot schedule : Option (List ℕ)) → Fits (explaining boot schedule)
-explain_fits None schedule = tt
-explain_fits (Some boot) schedule = tt
+explain_fits : (boot schedule trace : Option (List ℕ)) → Fits (explaining boot schedule trace)
+explain_fits None schedule trace = tt
+explain_fits (Some boot) schedule None = tt
+explain_fits (Some boot) None (Some trace) = tt
+explain_fits (Some boot) (Some schedule) (Some trace) = tt
 
 abbrev AllFit : List Command → Type 0
 AllFit [] = ⊤
@@ -79,13 +94,18 @@ chart_fits rows = both_fit (λ boot schedule. Chart boot schedule) (first_of (co
 count_fits : (rows : List Row) → Fits (count_request rows)
 count_fits rows = both_fit (λ boot schedule. Count boot schedule) (first_of (codes "boot") rows) (first_of (codes "schedule") rows) (λ x y. tt)
 
+drill_fits_by : (boot machines : Option (List ℕ)) (rows : List Row) → Fits (drill_by boot machines rows)
+drill_fits_by None machines rows =
+    run_fits_by (schedule_of rows) (trace_of rows) (seed_of rows) (machines_asked rows) (lines_asked rows) (named (first_of (codes "machines") rows) read_u8 2 16) (named (first_of (codes "lines") rows) read_u32 1 10000)
+drill_fits_by (Some boot) None rows = own_fits_by boot (shows_by (trace_of rows) (schedule_of rows)) (seed_of rows) (lines_asked rows) (named (first_of (codes "lines") rows) read_u32 1 10000)
+drill_fits_by (Some boot) (Some machines) rows = tt
+
 drill_fits : (rows : List Row) → Fits (drill_request rows)
-drill_fits rows =
-    drawn_fits (trace_of rows) (seed_of rows) (machines_asked rows) (lines_asked rows) (named (first_of (codes "machines") rows) read_u8 2 16) (named (first_of (codes "lines") rows) read_u32 1 10000)
+drill_fits rows = drill_fits_by (first_of (codes "boot") rows) (first_of (codes "machines") rows) rows
 
 -- a row a command
 commands_fit : AllFit commands
-commands_fit = (run_fits, (check_fits, (chart_fits, (λ rows. explain_fits (first_of (codes "boot") rows) (first_of (codes "schedule") rows), (count_fits, (drill_fits, tt))))))
+commands_fit = (run_fits, (check_fits, (chart_fits, (λ rows. explain_fits (first_of (codes "boot") rows) (first_of (codes "schedule") rows) (first_of (codes "trace") rows), (count_fits, (drill_fits, tt))))))
 
 if_fits : (b : Bool) (x y : Option Request) → Fits x → Fits y → Fits (if b then x else y)
 if_fits true x y h k = h

@@ -1,5 +1,5 @@
 -- The words of the command `drill`.
-use Rattle.std.specs.Prelude.{ℕ, ◌≤◌, Bool, true, false, nat_le, ◌&&◌, if◌then◌else◌, List, [], ◌∷◌, codes, is_some, option_and_then}
+use Rattle.std.specs.Prelude.{ℕ, ◌≤◌, Bool, true, false, nat_le, not, ◌&&◌, if◌then◌else◌, List, [], ◌∷◌, codes, is_some, option_and_then}
 use Rattle.std.specs.Option.{option_map_or}
 use Rattle.std.specs.Str.{bytes_eq}
 use Rattle.std.specs.declared.option.Option.{Option}
@@ -9,7 +9,11 @@ use Rattle.clap.specs.Simple.{Shape, new_rule, new_shape}
 use Rattle.clap.specs.declared.builder.action.ArgAction.TheVariants.{SetTrue}
 use Rattle.dm_text.specs.Reading.{read_u32, read_u8}
 use Rattle.dm_draw.specs.declared.drill.Drill.{Drill as TheDrill}
-use Rattle.dm_words.specs.Request.{Request, Drill}
+use Rattle.dm_draw.specs.declared.drill.OwnDrill.{OwnDrill as TheOwnDrill}
+use Rattle.dm_draw.specs.declared.drill.Shows.{Shows}
+use Rattle.dm_draw.specs.declared.drill.Shows.TheVariants as shows
+use Rattle.dm_words.specs.FileWords.{free_option}
+use Rattle.dm_words.specs.Request.{Request, Drill, OwnDrill}
 
 -- the option `--name NUMBER`, which has to be there
 abbrev pub number_option : List ℕ → Rule
@@ -19,9 +23,11 @@ number_option name = record (new_rule name) { long = Some name; required = true 
 abbrev pub flag_option : List ℕ → Rule
 flag_option name = record (new_rule name) { long = Some name; action = Some SetTrue }
 
--- `drill --seed N --machines M --lines L [--trace]`
+-- `drill --seed N --lines L (--machines M [--trace] | --boot FILE [--trace | --schedule])`
 abbrev pub drill_command : Shape
-drill_command = record (new_shape (codes "drill")) { rules = number_option (codes "seed") ∷ number_option (codes "machines") ∷ number_option (codes "lines") ∷ flag_option (codes "trace") ∷ [] }
+drill_command = record (new_shape (codes "drill")) {
+  rules = number_option (codes "seed") ∷ number_option (codes "lines") ∷ free_option (codes "machines") ∷ free_option (codes "boot") ∷ flag_option (codes "trace") ∷ flag_option (codes "schedule") ∷ [];
+}
 
 -- a number, if it is one of these
 abbrev pub if_within : ℕ → ℕ → ℕ → Option ℕ
@@ -54,9 +60,8 @@ is_set word = bytes_eq word (codes "true")
 abbrev pub trace_of : List Row → Bool
 trace_of rows = option_map_or is_set (first_of (codes "trace") rows) false
 
--- each number is there, and in its range
-abbrev pub has_numbers : List Row → Bool
-has_numbers rows = is_some (seed_of rows) && (is_some (machines_asked rows) && is_some (lines_asked rows))
+abbrev pub schedule_of : List Row → Bool
+schedule_of rows = option_map_or is_set (first_of (codes "schedule") rows) false
 
 -- what is drawn then
 abbrev pub drawn_by : Bool → Option ℕ → Option ℕ → Option ℕ → Option Request
@@ -65,12 +70,51 @@ drawn_by trace (Some seed) (Some machines) None = None
 drawn_by trace (Some seed) None lines = None
 drawn_by trace None machines lines = None
 
+-- a system that is drawn is run
+abbrev pub run_by : Bool → Bool → Option ℕ → Option ℕ → Option ℕ → Option Request
+run_by true trace seed machines lines = None
+run_by false trace seed machines lines = drawn_by trace seed machines lines
+
+-- what is written of a drill of a boot file's system, by the two flags, of which one may be there
+abbrev pub shows_by : Bool → Bool → Option Shows
+shows_by false false = Some shows.Summary
+shows_by true false = Some shows.Groups
+shows_by false true = Some shows.Directives
+shows_by true true = None
+
+-- what is drawn for it
+abbrev pub own_by : List ℕ → Option Shows → Option ℕ → Option ℕ → Option Request
+own_by boot (Some shown) (Some seed) (Some lines) = Some (OwnDrill boot (record { seed = seed; lines = lines; shows = shown }))
+own_by boot (Some shown) (Some seed) None = None
+own_by boot (Some shown) None lines = None
+own_by boot None seed lines = None
+
+-- with a boot file, with a number of machines, and with neither or both
+abbrev pub drill_by : Option (List ℕ) → Option (List ℕ) → List Row → Option Request
+drill_by None machines rows = run_by (schedule_of rows) (trace_of rows) (seed_of rows) (machines_asked rows) (lines_asked rows)
+drill_by (Some boot) None rows = own_by boot (shows_by (trace_of rows) (schedule_of rows)) (seed_of rows) (lines_asked rows)
+drill_by (Some boot) (Some machines) rows = None
+
 -- what its matches ask for
 abbrev pub drill_request : List Row → Option Request
-drill_request rows = drawn_by (trace_of rows) (seed_of rows) (machines_asked rows) (lines_asked rows)
+drill_request rows = drill_by (first_of (codes "boot") rows) (first_of (codes "machines") rows) rows
+
+-- its system is drawn for a number of machines in its range, or is that of a boot file; only for this one directives are written, and
+-- then not its groups too
+abbrev pub has_system : Option (List ℕ) → Option (List ℕ) → List Row → Bool
+has_system None machines rows = is_some (machines_asked rows) && not (schedule_of rows)
+has_system (Some boot) None rows = not (trace_of rows && schedule_of rows)
+has_system (Some boot) (Some machines) rows = false
+
+-- and the two numbers are there, and in their ranges
+abbrev pub takes_drill : List Row → Bool
+takes_drill rows = is_some (seed_of rows) && (is_some (lines_asked rows) && has_system (first_of (codes "boot") rows) (first_of (codes "machines") rows) rows)
 
 -- the ranges of its numbers
 pub record IsWithin (d : TheDrill) : Type 0 where
   pub least : 2 ≤ d.machines
   pub most : d.machines ≤ 16
   pub few : d.lines ≤ 10000
+
+abbrev pub OwnIsWithin : TheOwnDrill → Type 0
+OwnIsWithin d = d.lines ≤ 10000

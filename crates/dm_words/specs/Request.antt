@@ -2,6 +2,7 @@
 use Rattle.std.specs.Prelude.{ℕ, List}
 use Rattle.std.specs.declared.option.Option.{Option}
 use Rattle.dm_draw.specs.declared.drill.Drill.{Drill as TheDrill}
+use Rattle.dm_draw.specs.declared.drill.OwnDrill.{OwnDrill as TheOwnDrill}
 
 -- a row a command
 pub data Request : Type 0 where
@@ -13,7 +14,11 @@ pub data Request : Type 0 where
   Chart : (boot : List ℕ) → (schedule : List ℕ) → Request
   -- to say what the boot file of the first name says, and the schedule of the second where there is one, or what is wrong
   Explain : (boot : List ℕ) → (schedule : Option (List ℕ)) → Request
+  -- to check that trace too, and to say what was due where it isn't so
+  Judge : (boot : List ℕ) → (trace : List ℕ) → Request
   -- to run the schedule of the second name on the system of the boot file of the first, and count what happens
   Count : (boot : List ℕ) → (schedule : List ℕ) → Request
   -- to do the drill that is drawn from these numbers
   Drill : (drill : TheDrill) → Request
+  -- to do the drill of the system of the boot file of this name that is drawn from these numbers, or to write its directives
+  OwnDrill : (boot : List ℕ) → (drill : TheOwnDrill) → Request

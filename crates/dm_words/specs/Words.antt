@@ -10,12 +10,12 @@ use Rattle.clap.specs.Built.{AddsSubcommand}
 use Rattle.clap.specs.declared.builder.command.Command.{Command as TheCommand}
 use Rattle.dm_words.specs.declared.words.Request.{Request as TheRequest}
 use Rattle.dm_words.specs.declared.words.Request.TheVariants as the
-use Rattle.dm_words.specs.Request.{Request, Chart, Check, Count, Drill, Explain, Run}
+use Rattle.dm_words.specs.Request.{Request, Chart, Check, Count, Drill, Explain, Judge, OwnDrill, Run}
 use Rattle.dm_words.specs.ChartWords.{chart_command, chart_request}
 use Rattle.dm_words.specs.CheckWords.{check_command, check_request}
 use Rattle.dm_words.specs.CountWords.{count_command, count_request}
-use Rattle.dm_words.specs.DrillWords.{IsWithin, drill_command, drill_request, has_numbers}
-use Rattle.dm_words.specs.ExplainWords.{explain_command, explain_request}
+use Rattle.dm_words.specs.DrillWords.{IsWithin, OwnIsWithin, drill_command, drill_request, takes_drill}
+use Rattle.dm_words.specs.ExplainWords.{explain_command, explain_request, takes_explain}
 use Rattle.dm_words.specs.RunWords.{run_command, run_request}
 
 -- a command: its name and its options, which of their values it takes, and what its matches ask for
@@ -34,9 +34,9 @@ commands =
     record { shape = run_command; takes = any; request = run_request } ∷
     record { shape = check_command; takes = any; request = check_request } ∷
     record { shape = chart_command; takes = any; request = chart_request } ∷
-    record { shape = explain_command; takes = any; request = explain_request } ∷
+    record { shape = explain_command; takes = takes_explain; request = explain_request } ∷
     record { shape = count_command; takes = any; request = count_request } ∷
-    record { shape = drill_command; takes = has_numbers; request = drill_request } ∷ []
+    record { shape = drill_command; takes = takes_drill; request = drill_request } ∷ []
 
 abbrev pub with_commands : App → List Command → App
 with_commands a [] = a
@@ -87,8 +87,10 @@ request_said (the.Run boot schedule) = Run boot.now schedule.now
 request_said (the.Check boot trace) = Check boot.now trace.now
 request_said (the.Chart boot schedule) = Chart boot.now schedule.now
 request_said (the.Explain boot schedule) = Explain boot.now (option_map (λ s. s.now) schedule)
+request_said (the.Judge boot trace) = Judge boot.now trace.now
 request_said (the.Count boot schedule) = Count boot.now schedule.now
 request_said (the.Drill drill) = Drill drill
+request_said (the.OwnDrill boot drill) = OwnDrill boot.now drill
 
 -- the numbers of a drill are in their ranges
 abbrev pub IsInRange : TheRequest → Type 0
@@ -96,5 +98,7 @@ IsInRange (the.Run boot schedule) = ⊤
 IsInRange (the.Check boot trace) = ⊤
 IsInRange (the.Chart boot schedule) = ⊤
 IsInRange (the.Explain boot schedule) = ⊤
+IsInRange (the.Judge boot trace) = ⊤
 IsInRange (the.Count boot schedule) = ⊤
 IsInRange (the.Drill drill) = IsWithin drill
+IsInRange (the.OwnDrill boot drill) = OwnIsWithin drill

@@ -5,16 +5,16 @@ ghost use Rattle.clap.specs.Simple.{Shape};
 ghost use Rattle.dm_words.specs.Refused.{status_of_no};
 ghost use Rattle.dm_words.specs.CheckWords.{check_request as check_asked};
 ghost use Rattle.clap.specs.Walk.{first_of};
-ghost use Rattle.dm_words.specs.DrillWords.{drill_command as drill_shape, drill_request as drill_asked, flag_option, lines_in, lines_asked, machines_in, machines_asked, number_option, seed_of, trace_of};
+ghost use Rattle.dm_words.specs.DrillWords.{drill_command as drill_shape, drill_request as drill_asked, flag_option, lines_in, lines_asked, machines_in, machines_asked, number_option, own_by, run_by, schedule_of, seed_of, shows_by, trace_of};
 ghost use Rattle.dm_words.specs.ChartWords.{chart_request as chart_asked};
 ghost use Rattle.dm_words.specs.CountWords.{count_request as count_asked};
-ghost use Rattle.dm_words.specs.ExplainWords.{explain_command as explain_shape, explain_request as explain_asked};
+ghost use Rattle.dm_words.specs.ExplainWords.{explain_command as explain_shape, explain_request as explain_asked, explaining};
 ghost use Rattle.dm_words.specs.FileWords.{file_command as file_shape, file_option, free_option};
 ghost use Rattle.dm_words.specs.RunWords.{run_request as run_asked};
 ghost use Rattle.dm_words.specs.Words.{HasShape, IsInRange, IsTaken, bare, demosmp, request_at, request_of, request_said};
 
 use clap::{Arg, ArgAction, ArgMatches, Command};
-use dm_draw::drill::Drill;
+use dm_draw::drill::{Drill, OwnDrill, Shows};
 use dm_ending::status::Status;
 use dm_link::MACHINES;
 use dm_memory::NoMemory;
@@ -69,6 +69,11 @@ pub enum Request<'a> {
         boot: &'a str,
         schedule: Option<&'a str>,
     },
+    /// To check that the trace of a file is what the system of a boot file prints, and to say what was due where it isn't.
+    Judge {
+        boot: &'a str,
+        trace: &'a str,
+    },
     /// To run the schedule of a file on the system of a boot file, and count what happens.
     Count {
         boot: &'a str,
@@ -76,6 +81,11 @@ pub enum Request<'a> {
     },
     /// To do a drill: its machines are 2 to 16, its directives 1 to 10,000.
     Drill(Drill),
+    /// To do a drill of the system of a boot file, or to write its directives, which are 1 to 10,000.
+    OwnDrill {
+        boot: &'a str,
+        drill: OwnDrill,
+    },
 }
 
 /// What the words ask for, where they are those of a command.
@@ -151,7 +161,8 @@ fn explain_command<'a>(alloc: Global) -> Result<Command<'a>, NoMemory>
     ensures { IfOk result (HasShape explain_shape) }
 {
     let explain = with_arg(Command::new(alloc, "explain"), file(alloc, "boot"))?;
-    with_arg(explain, free(alloc, "schedule"))
+    let explain = with_arg(explain, free(alloc, "schedule"))?;
+    with_arg(explain, free(alloc, "trace"))
 }
 
 /// The command `drill`.
@@ -159,9 +170,11 @@ fn drill_command<'a>(alloc: Global) -> Result<Command<'a>, NoMemory>
     ensures { IfOk result (HasShape drill_shape) }
 {
     let drill = with_arg(Command::new(alloc, "drill"), number(alloc, "seed"))?;
-    let drill = with_arg(drill, number(alloc, "machines"))?;
     let drill = with_arg(drill, number(alloc, "lines"))?;
-    with_arg(drill, flag(alloc, "trace"))
+    let drill = with_arg(drill, free(alloc, "machines"))?;
+    let drill = with_arg(drill, free(alloc, "boot"))?;
+    let drill = with_arg(drill, flag(alloc, "trace"))?;
+    with_arg(drill, flag(alloc, "schedule"))
 }
 
 /// The option `--name FILE`, which has to be there.
@@ -262,13 +275,31 @@ fn chart_request<'a>(matches: &ArgMatches<'a>) -> Option<Request<'a>>
     Some(Request::Chart { boot, schedule })
 }
 
-/// The file that the matches of `explain` name, and the other one where they name it.
+/// The file that the matches of `explain` name, and the schedule or the trace where they name one of them.
 fn explain_request<'a>(matches: &ArgMatches<'a>) -> Option<Request<'a>>
     ensures { option_map request_said result ≡ explain_asked (rows_of (found_of matches.now)) }
 {
     let boot = matches.get_str("boot")?;
     let schedule = matches.get_str("schedule");
-    Some(Request::Explain { boot, schedule })
+    let trace = matches.get_str("trace");
+    explaining(boot, schedule, trace)
+}
+
+/// What is asked for of a boot file, and of a schedule or a trace where one is named.
+fn explaining<'a>(
+    boot: &'a str,
+    schedule: Option<&'a str>,
+    trace: Option<&'a str>,
+) -> Option<Request<'a>>
+    ensures { option_map request_said result ≡ explaining (Some boot.now) (option_map (λ s. s.now) schedule.entry) (option_map (λ s. s.now) trace.entry) }
+{
+    match trace {
+        None => Some(Request::Explain { boot, schedule }),
+        Some(trace) => match schedule {
+            None => Some(Request::Judge { boot, trace }),
+            Some(_) => None,
+        },
+    }
 }
 
 /// The two files that the matches of `count` name.
@@ -286,6 +317,24 @@ fn drill_request<'a>(matches: &ArgMatches<'a>) -> Option<Request<'a>>
     ensures asked { option_map request_said result ≡ drill_asked (rows_of (found_of matches.now)) }
     ensures within { IfSome result IsInRange }
 {
+    match value(matches, "boot") {
+        Some(boot) => match value(matches, "machines") {
+            Some(_) => None,
+            None => own_request(boot, matches),
+        },
+        None => drawn_request(matches),
+    }
+}
+
+/// The drill of a system that is drawn; its directives aren't written alone.
+fn drawn_request<'a>(matches: &ArgMatches<'a>) -> Option<Request<'a>>
+    ensures asked { option_map request_said result ≡ run_by (schedule_of (rows_of (found_of matches.now))) (trace_of (rows_of (found_of matches.now)))
+        (seed_of (rows_of (found_of matches.now))) (machines_asked (rows_of (found_of matches.now))) (lines_asked (rows_of (found_of matches.now))) }
+    ensures within { IfSome result IsInRange }
+{
+    if has_schedule(matches) {
+        return None;
+    }
     let seed = seed(matches)?;
     let machines = machines(matches)?;
     let lines = lines(matches)?;
@@ -296,6 +345,36 @@ fn drill_request<'a>(matches: &ArgMatches<'a>) -> Option<Request<'a>>
         lines,
         trace,
     }))
+}
+
+/// The drill of the system of this boot file.
+fn own_request<'a>(boot: &'a str, matches: &ArgMatches<'a>) -> Option<Request<'a>>
+    ensures asked { option_map request_said result ≡ own_by boot.now (shows_by (trace_of (rows_of (found_of matches.now))) (schedule_of (rows_of (found_of matches.now))))
+        (seed_of (rows_of (found_of matches.now))) (lines_asked (rows_of (found_of matches.now))) }
+    ensures within { IfSome result IsInRange }
+{
+    let shows = shows(has_trace(matches), has_schedule(matches))?;
+    let seed = seed(matches)?;
+    let lines = lines(matches)?;
+    Some(Request::OwnDrill {
+        boot,
+        drill: OwnDrill { seed, lines, shows },
+    })
+}
+
+/// What is written of a drill, by the two flags, of which one may be there.
+fn shows(trace: bool, schedule: bool) -> Option<Shows>
+    ensures { result ≡ shows_by trace schedule }
+{
+    if !trace && !schedule {
+        Some(Shows::Summary)
+    } else if !schedule {
+        Some(Shows::Groups)
+    } else if !trace {
+        Some(Shows::Directives)
+    } else {
+        None
+    }
 }
 
 /// The number of the option `--seed`.
@@ -363,6 +442,16 @@ fn has_trace(matches: &ArgMatches<'_>) -> bool
     ensures { result ≡ trace_of (rows_of (found_of matches.now)) }
 {
     match value(matches, "trace") {
+        Some(word) => word == "true",
+        None => false,
+    }
+}
+
+/// Whether the option `--schedule` is there.
+fn has_schedule(matches: &ArgMatches<'_>) -> bool
+    ensures { result ≡ schedule_of (rows_of (found_of matches.now)) }
+{
+    match value(matches, "schedule") {
         Some(word) => word == "true",
         None => false,
     }

@@ -1,8 +1,10 @@
 use Rattle.dm_commands.proofs.Names.{rules, ◌≡◌, ◌∙◌, List, ℕ, ap, map, refl, sym, subst, Option, None, Some, Status, Request, TheRequest, request_of, request_said, IsInRange}
 use Rattle.dm_run.specs.Notion.{by_world}
 use Rattle.dm_words.proofs.Ranges.{asked_fits}
+use Rattle.dm_commands.proofs.Judging.{judge_taken}
 use Rattle.dm_commands.proofs.Meeting.{unread}
 use Rattle.dm_commands.proofs.Obeying.{check_taken, drill_taken, drilled_unread, explain_taken, no_request, run_taken}
+use Rattle.dm_commands.proofs.OwnDrilling.{own_taken}
 use Rattle.dm_commands.proofs.Silent.{silent}
 use Rattle.dm_commands.specs.Asked.{Nothing}
 use Rattle.dm_commands.specs.Charts.{ChartSays}
@@ -46,6 +48,14 @@ returns-in-Ok-Explain-clause-meets g c =
 pub returns-in-Ok-Explain-clause-refused : goal.returns-in-Ok-Explain-clause-refused
 returns-in-Ok-Explain-clause-refused g c = λ usage taken. explain_taken _ _ _ _ c.explain_files.result c.explain_files.ensures.meets usage
 
+pub returns-in-Ok-Judge-clause-meets : goal.returns-in-Ok-Judge-clause-meets
+returns-in-Ok-Judge-clause-meets g c =
+    let a = around (shelf_around g.F.Shelf.asked g.F.Shelf.told g.F.Shelf.faults g.F.Shelf.last_failed c.args.shelf.now c.judge_files.new.shelf) (sink_around g.K.Sink.told g.K.Sink.faults g.K.Sink.last_failed c.args.out.now c.judge_files.new.out) in
+    subst (λ (r : Option Request). CommandMeets of_world r a None c.judge_files.result) (sym (c.in-Ok-Judge.ensures.asks ∙ ap (λ (r : TheRequest). Some (request_said r)) c.in-Ok-Judge.field-0-is)) c.judge_files.ensures.meets
+
+pub returns-in-Ok-Judge-clause-refused : goal.returns-in-Ok-Judge-clause-refused
+returns-in-Ok-Judge-clause-refused g c = λ usage taken. judge_taken traced_by_world _ _ _ _ c.judge_files.result c.judge_files.ensures.meets usage
+
 pub returns-in-Ok-Count-clause-meets : goal.returns-in-Ok-Count-clause-meets
 returns-in-Ok-Count-clause-meets g c =
     let a = around (shelf_around g.F.Shelf.asked g.F.Shelf.told g.F.Shelf.faults g.F.Shelf.last_failed c.args.shelf.now c.count_files.new.shelf) (sink_around g.K.Sink.told g.K.Sink.faults g.K.Sink.last_failed c.args.out.now c.count_files.new.out) in
@@ -69,6 +79,17 @@ returns-in-Ok-Drill-clause-meets g c =
 
 pub returns-in-Ok-Drill-clause-refused : goal.returns-in-Ok-Drill-clause-refused
 returns-in-Ok-Drill-clause-refused g c = λ usage taken. drill_taken by_world c.in-Ok-Drill.drawn _ c.drill.new.world c.drill.result c.drill.ensures.meets usage
+
+pub drill_file-requires : goal.drill_file-requires
+drill_file-requires g c = record { law = c.requires.law; within = subst IsInRange c.in-Ok-OwnDrill.field-0-is c.in-Ok-OwnDrill.ensures.within }
+
+pub returns-in-Ok-OwnDrill-clause-meets : goal.returns-in-Ok-OwnDrill-clause-meets
+returns-in-Ok-OwnDrill-clause-meets g c =
+    let a = around (shelf_around g.F.Shelf.asked g.F.Shelf.told g.F.Shelf.faults g.F.Shelf.last_failed c.args.shelf.now c.drill_file.new.shelf) (sink_around g.K.Sink.told g.K.Sink.faults g.K.Sink.last_failed c.args.out.now c.drill_file.new.out) in
+    subst (λ (r : Option Request). CommandMeets of_world r a c.drill_file.new.world c.drill_file.result) (sym (c.in-Ok-OwnDrill.ensures.asks ∙ ap (λ (r : TheRequest). Some (request_said r)) c.in-Ok-OwnDrill.field-0-is)) c.drill_file.ensures.meets
+
+pub returns-in-Ok-OwnDrill-clause-refused : goal.returns-in-Ok-OwnDrill-clause-refused
+returns-in-Ok-OwnDrill-clause-refused g c = λ usage taken. own_taken by_world _ c.in-Ok-OwnDrill.drawn _ c.drill_file.new.world c.drill_file.result c.drill_file.ensures.meets usage
 
 pub returns-in-Err-clause-meets : goal.returns-in-Err-clause-meets
 returns-in-Err-clause-meets g c =

@@ -11,4 +11,6 @@ returns-in_err-boot c =
 pub returns : goal.returns
 returns c =
     let b : c.get_str.result ≡ Some c.in_ok-boot.boot = search rules in
-    sym (explain_found (found_of c.args.matches.now) (Some c.in_ok-boot.boot.now) (option_map (λ s. s.now) c.get_str-schedule.result) (ap (option_map (λ s. s.now)) (sym b) ∙ c.get_str.ensures) c.get_str-schedule.ensures)
+    c.explaining.ensures
+    ∙ sym (explain_found (found_of c.args.matches.now) (Some c.in_ok-boot.boot.now) (option_map (λ s. s.now) c.get_str-schedule.result) (option_map (λ s. s.now) c.get_str-trace.result) (ap (option_map (λ s. s.now)) (sym b) ∙ c.get_str.ensures) c.get_str-schedule.ensures
+    c.get_str-trace.ensures)
