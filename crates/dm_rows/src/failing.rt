@@ -40,7 +40,7 @@ const READ_AND_WRITTEN: Calls = Calls {
     writes: 1,
 };
 
-const TRIED: [Tried; 7] = [
+const TRIED: [Tried; 8] = [
     Tried {
         name: "run",
         words: "run --boot boot --schedule other",
@@ -63,6 +63,13 @@ const TRIED: [Tried; 7] = [
         words: "explain --boot boot --schedule other",
         other: "hi.schedule",
         output: "said_hi_and_schedule.out",
+        calls: READ_AND_WRITTEN,
+    },
+    Tried {
+        name: "explain of a trace",
+        words: "explain --boot boot --trace other",
+        other: "hi.out",
+        output: "good_8_ended.out",
         calls: READ_AND_WRITTEN,
     },
     Tried {
@@ -97,6 +104,50 @@ const TRIED: [Tried; 7] = [
         calls: Calls {
             reads: 0,
             writes: 3,
+        },
+    },
+];
+
+/// What is told wrongly on purpose, and has to be said to be wrong.
+const MISTAKEN: [Tried; 4] = [
+    Tried {
+        name: "another output",
+        words: "run --boot boot --schedule other",
+        other: "hi.schedule",
+        output: "nobody.out",
+        calls: Calls {
+            reads: 4,
+            writes: 9,
+        },
+    },
+    Tried {
+        name: "a read too many",
+        words: "run --boot boot --schedule other",
+        other: "hi.schedule",
+        output: "hi.out",
+        calls: Calls {
+            reads: 5,
+            writes: 9,
+        },
+    },
+    Tried {
+        name: "a write too few",
+        words: "run --boot boot --schedule other",
+        other: "hi.schedule",
+        output: "hi.out",
+        calls: Calls {
+            reads: 4,
+            writes: 8,
+        },
+    },
+    Tried {
+        name: "another status",
+        words: "run --boot boot",
+        other: "hi.schedule",
+        output: "/dev/null",
+        calls: Calls {
+            reads: 0,
+            writes: 0,
         },
     },
 ];
@@ -216,6 +267,11 @@ pub fn verdict(right: bool) -> &'static str {
 pub fn fail_in_turn(rt: &HostRuntime) -> Result<()> {
     for tried in &TRIED {
         fail_command(rt, tried)?;
+    }
+    for tried in &MISTAKEN {
+        let whole = fs::read(rt, tried.output)?;
+        say_failed(rt, tried, Failed::Nothing, whole.as_slice())?;
+        fail_bytes(rt, tried, whole.as_slice())?;
     }
     Ok(())
 }
@@ -394,6 +450,18 @@ pub fn fail_once(rt: &HostRuntime) -> Result<()> {
     for fault in [Fault::Broken, Fault::Interrupted, Fault::Nothing] {
         fail_writer(rt, fault, whole.as_slice())?;
     }
+    mistake_once(rt)
+}
+
+/// Holds the first run against another output than its own, where no file and where the second write fails: both are wrong.
+fn mistake_once(rt: &HostRuntime) -> Result<()> {
+    let other = fs::read(rt, "nobody.out")?;
+    let none = failing(FILE_CALLS, Fault::Broken);
+    let files = files_once(rt, none, other.as_slice())?;
+    say_once(rt, "another output, file", none, files)?;
+    let second = failing(1, Fault::Broken);
+    let writer = writer_once(rt, second, other.as_slice())?;
+    say_once(rt, "another output, writer", second, writer)?;
     Ok(())
 }
 

@@ -90,6 +90,30 @@ const LARGE: [Large; 6] = [
     },
 ];
 
+/// What is told wrongly on purpose, and has to be said to be wrong.
+const MISTAKEN: [Large; 2] = [
+    Large {
+        name: "another output of many groups",
+        words: "check --boot boot --trace other",
+        boot: "nobody.boot",
+        other: "nobody.schedule",
+        line: "turn 0\nidle 0\n",
+        times: 70_000,
+        group: "",
+        output: "good_8_ended.out",
+    },
+    Large {
+        name: "another status",
+        words: "check --boot boot",
+        boot: "nobody.boot",
+        other: "nobody.schedule",
+        line: "",
+        times: 0,
+        group: "",
+        output: "/dev/null",
+    },
+];
+
 /// The most bytes of a boot file.
 const LONGEST_BOOT: usize = 1_048_576;
 
@@ -101,6 +125,10 @@ pub fn run_large(rt: &HostRuntime) -> Result<()> {
     }
     let right = verdict(is_long_right(rt)?);
     say_large(rt, "run of the longest boot file", right)?;
+    for mistaken in &MISTAKEN {
+        let right = verdict(is_large_right(rt, mistaken)?);
+        say_large(rt, mistaken.name, right)?;
+    }
     Ok(())
 }
 
