@@ -2,6 +2,7 @@
 "use strict";
 
 const HEAD = /^(turn|tick|deliver|migrate|calloff) /;
+const LARGE = 40; // no list on the page is longer
 
 // A frame with the page in it, and what was wrong in its scripts.
 function opened(html) {
@@ -57,20 +58,65 @@ function triesKeys(tried, must) {
     must(at(tried) === 0 || shown.textContent === String(at(tried)), "the lines shown are those of the group");
 }
 
-// What stands on the page is the same whether one came forward to it or went back.
+// Goes to a group by the slider.
+function slide(tried, group) {
+    const slider = tried.document.getElementById("slider");
+    slider.value = group;
+    slider.dispatchEvent(new tried.window.Event("input", { bubbles: true }));
+}
+
+// What stands on the page is the same whether one came forward to it or went back, step by step or at once.
 function triesBack(tried, must) {
-    const middle = Math.floor(count(tried) / 2);
+    const all = count(tried);
+    const middle = Math.floor(all / 2);
     const look = () => tried.document.getElementById("system").textContent;
+    const seen = new Map();
     press(tried, "Home");
-    for (let g = 0; g < middle; g++) {
+    for (let g = 1; g <= all; g++) {
         press(tried, "ArrowRight");
+        if ([1, middle, 255, 256, 257, all - 1].includes(g)) {
+            seen.set(g, look());
+        }
     }
-    const forward = look();
-    press(tried, "End");
-    for (let g = count(tried); g > middle; g--) {
+    for (let g = all; g > middle; g--) {
         press(tried, "ArrowLeft");
+        must(!seen.has(g - 1) || look() === seen.get(g - 1), `group ${g - 1} looks the same from both sides`);
     }
-    must(look() === forward, "a group looks the same from both sides");
+    for (const [g, looked] of seen) {
+        press(tried, "End");
+        slide(tried, g);
+        must(look() === looked, `group ${g} looks the same where one comes from the end`);
+    }
+}
+
+// What the lines say of packets, of output and of processes that have ended is what the page has at its end.
+function triesEnd(tried, must) {
+    const lines = tried.document.getElementById("trace").textContent.split("\n").map((line) => line.split(" "));
+    press(tried, "End");
+    const open = {};
+    const said = {};
+    for (const [word, a, b, c] of lines) {
+        if (word === "packet") {
+            open[`${a} ${b}`] = (open[`${a} ${b}`] ?? new Set()).add(c);
+        } else if (word === "deliver") {
+            open[`${a} ${b}`]?.delete(c);
+        } else if (word === "out") {
+            said[a] = [...(said[a] ?? []), Number(b)];
+        }
+    }
+    const packets = tried.document.querySelectorAll("#packets .packet").length;
+    must(packets === Object.values(open).reduce((sum, each) => sum + Math.min(each.size, LARGE), 0), "the packets that were never delivered are shown");
+    const outputs = tried.document.getElementById("outputs").textContent;
+    for (const words of Object.values(said)) {
+        const letters = words.every((word) => word >= 32 && word < 127) ? ` "${words.map((word) => String.fromCharCode(word)).join("")}"` : "";
+        must(outputs.includes(`: ${words.slice(-LARGE).join(" ")}${letters}`), "what a process put out is shown");
+    }
+    const rows = [...tried.document.querySelectorAll("#system .row .word")].map((word) => word.textContent);
+    if (!rows.includes("inbox") && !rows.includes("not taken")) {
+        const pids = (name) => [...tried.document.querySelectorAll(`#machines .process.${name}`)].map((card) => card.dataset.what);
+        const ended = pids("ended");
+        must(pids("gone-on").every((pid) => !ended.includes(pid)), "no machine knows of a process that has ended, where nothing is on its way");
+    }
 }
 
 // How many groups put a message.
@@ -107,6 +153,12 @@ function triesSearch(tried, must) {
         press(tried, "p");
         must(at(tried) === first, "the one before it is the first");
     }
+    // only whole words are found
+    press(tried, "Home");
+    find.value = "pu";
+    find.dispatchEvent(new tried.window.KeyboardEvent("keydown", { key: "Enter", bubbles: true }));
+    must(at(tried) === 0 && tried.document.querySelector("#lines .found") === null, "a part of a word isn't found");
+    must(tried.document.getElementById("place").textContent === "no further line: pu", "that there is no such line is told");
     find.value = "";
 }
 
@@ -143,7 +195,7 @@ function tries({ html, wrong }) {
         must(tried.faults.length === 0, `its scripts are at fault: ${tried.faults}`);
         must(check.classList.contains("agrees") || check.textContent.startsWith("no lines at the end"), check.textContent);
         if (tried.faults.length === 0) {
-            [triesKeys, triesBack, triesSearch, triesFollow].forEach((each) => each(tried, must));
+            [triesKeys, triesBack, triesEnd, triesSearch, triesFollow].forEach((each) => each(tried, must));
         }
         must(tried.faults.length === 0, `its scripts are at fault: ${tried.faults}`);
     }

@@ -22,20 +22,47 @@ class Drawing:
         return self.chance.choice(values)
 
 
-class System(Drawing):
-    """A boot file and a schedule of a system that does something; of some, one place is changed."""
+# What a system may be drawn without, and what that is.
+PARTS = {
+    "machines": "more than one machine",
+    "losses": "packets that are lost, repeated or come in another order: lines `deliver` and `tick`",
+    "moves": "processes that move, whoever asks for it",
+    "calloffs": "moves that are called off",
+    "servermoves": "lines `migrate` for a server",
+    "requests": "processes that ask for moves",
+    "data": "data moves",
+    "manager": "links to the process manager",
+    "switchboard": "links to the switchboard",
+    "links": "links that are made, copied, dropped or enclosed, and reply links",
+    "faults": "programs that fault, and calls that are mostly refused",
+    "format": "the second format, with its larger tables and bodies",
+    "numbers": "pairs of machines that count as many messages as they may",
+}
 
-    def __init__(self, number):
+
+class System(Drawing):
+    """A boot file and a schedule of a system that does something; of some, one place is changed. It is drawn without some of
+    PARTS, where these are named, and whole, where nothing is to be changed in it."""
+
+    SIZES = [1, 1, 1, 2, 3]  # of images, in blocks
+
+    def __init__(self, number, without=(), whole=False):
         super().__init__(number)
-        self.careful = not self.one_in(4)  # programs whose calls are mostly not refused
+        assert all(part in PARTS for part in without)
+        self.without = set(without)
+        self.careful = not self.one_in(4) or "faults" in without  # programs whose calls are mostly not refused
         self.machines = 16 if self.one_in(20) else self.pick([1, 2, 2, 3, 3, 4, 5])
-        self.format = 2 if self.one_in(5) else 1
+        if "machines" in without:
+            self.machines = 1
+        self.format = 2 if self.one_in(5) and "format" not in without else 1
         self.images = self.between(2, 5)
-        self.blocks = [self.pick([1, 1, 1, 2, 3]) for _ in range(self.images)]
+        self.blocks = [self.pick(self.SIZES) for _ in range(self.images)]
         self.processes = [(self.below(self.machines), self.below(self.images)) for _ in range(self.between(1, 8))]
         self.links = [self.first_links() for _ in self.processes]
         self.boot = self.boot_file()
         self.schedule = self.directives()
+        if whole:
+            return
         if self.one_in(12):
             self.boot = self.spoiled(self.boot)
         elif self.one_in(15):
@@ -49,12 +76,12 @@ class System(Drawing):
             lines.append(f"format = {self.format}")
         if self.one_in(2):
             lines.append(f"quantum = {self.pick([1, 2, 3, 5, 16, 40, 1000])}")
-        if self.one_in(8):
+        if self.one_in(8) and "numbers" not in self.without:
             lines.append(f"numbers = {self.between(1, 40)}")
         for machine in range(self.machines):
             here = [image for at, image in self.processes if at == machine]
-            slots = len(here) + self.pick([0, 0, 1, 2, 3, 8])
-            blocks = sum(self.blocks[image] for image in here) + self.pick([0, 1, 2, 3, 6, 20])
+            slots, blocks = self.room()
+            slots, blocks = slots + len(here), blocks + sum(self.blocks[image] for image in here)
             lines += ["[[machine]]", f"slots = {slots}", f"blocks = {blocks}"]
         for image in range(self.images):
             lines += ["[[image]]", f'name = "i{image}"', f"blocks = {self.blocks[image]}", "text = '''", *self.program(image), "'''"]
@@ -63,13 +90,28 @@ class System(Drawing):
             lines.append("links = [" + ", ".join(self.links[number]) + "]")
         return "\n".join(lines).encode() + b"\n"
 
+    def room(self):
+        """The slots and blocks that are free on a machine."""
+        return self.pick([0, 0, 1, 2, 3, 8]), self.pick([0, 1, 2, 3, 6, 20])
+
     def first_links(self):
         if self.careful:
             links = [self.link() for _ in range(4)] + ['{ to = "manager" }', '{ to = "switchboard" }']
-            return links + [f'{{ control = "p{self.below(len(self.processes))}" }}']
+            links.append(f'{{ control = "p{self.below(len(self.processes))}" }}')
+            return [link if self.may_stand(link) else '{ to = "p0" }' for link in links]
         return [self.link() for _ in range(self.between(1, 6))]
 
+    def may_stand(self, link):
+        """Whether a link leads to no server that the system is drawn without."""
+        if "manager" in self.without and ("manager" in link or "control" in link):
+            return False
+        return not ("switchboard" in self.without and "switchboard" in link)
+
     def link(self):
+        links = iter(self.drawn_link, None)
+        return next(link for link in links if self.may_stand(link) and not ("links" in self.without and "reply" in link))
+
+    def drawn_link(self):
         if self.one_in(6):
             return '{ to = "switchboard" }' if self.one_in(2) else '{ to = "switchboard", reply = true }'
         if self.one_in(6):
@@ -119,10 +161,18 @@ class System(Drawing):
 
     def part(self, memory, number):
         """A few lines of a program, and those of what stands behind it."""
+        return self.pick([kind for kind in self.kinds() if self.may_be(kind)])(memory, f"d{number}")
+
+    def kinds(self):
         kinds = [self.send] * 5 + [self.receive] * 5 + [self.move] * 3 + [self.make] * 2 + [self.ask_switchboard] * 2
         kinds += [self.ask_manager] * 2 + [self.ask_move] * 2 + [self.out] * 2 + [self.compute] * 2
-        kinds += [self.control, self.copy, self.drop, self.odd]
-        return self.pick(kinds)(memory, f"d{number}")
+        return kinds + [self.control, self.copy, self.drop, self.odd]
+
+    def may_be(self, kind):
+        """Whether a program may have this part."""
+        parts = {"data": [self.move], "requests": [self.ask_move], "moves": [self.ask_move], "links": [self.make, self.copy, self.drop]}
+        parts.update(manager=[self.ask_manager, self.ask_move, self.control], switchboard=[self.ask_switchboard], faults=[self.odd])
+        return not any(kind in parts.get(part, []) for part in self.without)
 
     def rarely(self, n):
         """One in n, and much rarer in a program that is careful."""
@@ -132,7 +182,7 @@ class System(Drawing):
         return self.pick([0, 1, 4, 5, 63, 64, 65, 255, 256, 257, memory - 1, memory, memory + 1, 65535, self.below(65536)])
 
     def send(self, memory, label):
-        slots = [self.slot() for _ in range(self.pick([0, 0, 0, 1, 1, 2, 3, 4]))]
+        slots = [self.slot() for _ in range(self.pick([0, 0, 0, 1, 1, 2, 3, 4]))] if "links" not in self.without else []
         body = [self.below(256) for _ in range(self.pick([0, 1, 2, 5]))]
         length = len(body) if not self.rarely(6) else self.odd_number(memory)
         count = len(slots) if not self.rarely(12) else self.pick([5, 4, 255])
@@ -177,6 +227,7 @@ class System(Drawing):
 
     def over(self, label, body, slots, server=None):
         slot = server if self.careful and server and not self.one_in(4) else self.slot()
+        slots = slots if "links" not in self.without else []
         lines = [f"li r1 {slot}", f"li r2 {label}", f"li r3 {len(body)}", f"li r4 {len(slots)}", f"li r5 {label}s", "sys 6"]
         return lines, [f"{label}: .byte " + " ".join(map(str, body)), f"{label}s: .byte " + " ".join(map(str, slots + [0]))]
 
@@ -195,7 +246,10 @@ class System(Drawing):
         return self.over(label, body, [self.slot() for _ in range(self.pick([0, 1, 1, 2]))], 6)
 
     def control(self, memory, label):
-        return self.over(label, [self.pick([2, 3, 3, 4, 5])] + [0] * self.one_in(6), [self.slot()] * self.one_in(3))
+        operation = self.pick([2, 3, 3, 4, 5])
+        if operation == 5 and self.without & {"requests", "moves"}:
+            operation = 2
+        return self.over(label, [operation] + [0] * self.one_in(6), [self.slot()] * self.one_in(3))
 
     def compute(self, memory, label):
         word = self.pick(["add", "sub", "mul", "and", "or", "xor", "shl", "shr"])
@@ -267,7 +321,16 @@ class System(Drawing):
                 lines.append(self.pick(["", "# nothing", " \t round\t", f"turn 00{self.between(0, most)}", f"migrate 0.{self.below(3)} 0"]))
         if self.one_in(2):
             lines.append(self.pick(["settle", f"rest {self.pick([1, 30, 300])}"]))
+        lines = [line for line in lines if self.may_come(line.split())]
         return "\n".join(lines).encode() + b"\n" * self.below(2)
+
+    def may_come(self, words):
+        """Whether a schedule may have this line."""
+        word = words[0] if words else ""
+        left_out = {"losses": ["tick", "deliver"], "moves": ["migrate", "calloff"], "calloffs": ["calloff"]}
+        if any(word in left_out.get(part, []) for part in self.without):
+            return False
+        return not ("servermoves" in self.without and word == "migrate" and words[1] in ("0.1", "0.2"))
 
     def spoiled(self, data):
         """The same with one place changed."""
@@ -275,6 +338,44 @@ class System(Drawing):
         end = min(len(data), at + self.between(0, 3))
         new = bytes(self.pick(b"0123456789 \n\t\r\"'=[]{},.#abr-_:\xff") for _ in range(self.between(0, 3)))
         return data[:at] + new + data[end:]
+
+
+class Lively(System):
+    """A system in which more comes about: machines have room, links have areas, and servers are asked for what they can do."""
+
+    SIZES = [1, 2, 2, 3]
+
+    def room(self):
+        return self.pick([1, 4, 8]), self.pick([3, 8, 20])
+
+    def kinds(self):
+        return super().kinds() + [self.move, self.ask_switchboard, self.ask_manager, self.control] * 2
+
+    def first_links(self):
+        self.careful = True
+        return [self.wide_link(), self.wide_link(), *super().first_links()[2:]]
+
+    def wide_link(self):
+        """A link with all of a process's memory as its area."""
+        to = self.below(len(self.processes))
+        return f'{{ to = "p{to}", len = {256 * self.blocks[self.processes[to][1]]}, read = true, write = true }}'
+
+    def move(self, memory, label):
+        length = self.pick([1, 56, 256, 257, 300, 512])
+        lines = [f"li r1 {self.below(2)}", f"li r2 {self.below(2)}", f"li r3 {self.pick([0, 0, 56])}"]
+        return lines + [f"li r4 {max(memory - max(length, 64), 0)}", f"li r5 {length}", "sys 8"], []
+
+    def ask_switchboard(self, memory, label):
+        operation = self.pick([1, 1, 2])
+        slots = [self.below(2), self.pick([0, 1, 2, 3])][: 3 - operation]
+        return self.over(label, [operation, self.between(97, 99)], slots, 5)
+
+    def ask_manager(self, memory, label):
+        slots = [self.below(2), self.below(4), self.below(4)][: self.between(1, 3)]
+        return self.over(label, [1, self.below(self.machines), 0, self.below(self.images)], slots, 4)
+
+    def control(self, memory, label):
+        return self.over(label, [self.pick([2, 3, 3, 3, 4])], [], 6)
 
 
 class Files(Drawing):
@@ -434,3 +535,10 @@ def drawn_drill(number):
     chance = Random(f"drill {number}")
     seed, machines, count = chance.randrange(2**32), chance.randint(2, 16), chance.choice([1, 10, 40, 100, 200])
     return ["drill", "--seed", str(seed), "--machines", str(machines), "--lines", str(count), *["--trace"] * chance.randrange(2)]
+
+
+def drawn_own_drill(number, boot):
+    """A drill of the system of this boot file."""
+    chance = Random(f"own drill {number}")
+    seed, count = chance.randrange(2**32), chance.choice([1, 10, 40, 100, 200])
+    return ["drill", "--boot", boot, "--seed", str(seed), "--lines", str(count), *chance.choice([[], ["--trace"], ["--schedule"]])]

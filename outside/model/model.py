@@ -3,7 +3,9 @@
 
     python3 outside/model/model.py run --boot FILE --schedule FILE
     python3 outside/model/model.py check --boot FILE --trace FILE
+    python3 outside/model/model.py explain --boot FILE --trace FILE
     python3 outside/model/model.py drill --seed N --machines M --lines L [--trace]
+    python3 outside/model/model.py drill --boot FILE --seed N --lines L [--trace | --schedule]
     python3 outside/model/model.py count --boot FILE --schedule FILE
 
 writes what the program writes, and ends with its status and its line on standard error. It was written from the rules
@@ -116,7 +118,7 @@ def do_explain(words, write):
 
 
 def do_drill(words, write):
-    own = standing.COMMANDS and any(word.partition("=")[0] == "--boot" for word in words)
+    own = any(word.partition("=")[0] == "--boot" for word in words)
     wanted = ["--seed", "--lines", "--boot" if own else "--machines"]
     options = options_of(words, wanted, *(["--trace", "--schedule"] if own else ["--trace"]))
     if "--trace" in options and "--schedule" in options:
@@ -161,9 +163,9 @@ def do_look(words, write):
     write(look(world, directives, most, last))
 
 
-COMMANDS = {"run": do_run, "check": do_check, "drill": do_drill, "count": do_count}
+COMMANDS = {"run": do_run, "check": do_check, "explain": do_explain, "drill": do_drill, "count": do_count}
 if standing.COMMANDS:
-    COMMANDS |= {"look": do_look, "explain": do_explain}
+    COMMANDS |= {"look": do_look}
 
 
 def run(words, write):
