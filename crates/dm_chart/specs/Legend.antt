@@ -42,8 +42,8 @@ meanings =
     ∷ codes "<line class='b' stroke='#5c6bc0' x1='10' y1='132' x2='28' y2='132'/><line class='v' stroke='#5c6bc0' x1='28' y1='132' x2='46' y2='132'/><text class='q' x='54' y='136'>a process; dotted while it is frozen</text>\n"
     ∷ codes "<line class='p' x1='290' y1='36' x2='326' y2='36'/><use href='#early' x='326' y='36'/><text class='q' x='338' y='40'>packet that came early</text>\n"
     ∷ codes "<line class='p' x1='290' y1='52' x2='326' y2='52'/><use href='#again' x='326' y='52'/><text class='q' x='338' y='56'>packet that came again</text>\n"
-    ∷ codes "<line class='p' x1='290' y1='68' x2='326' y2='68'/><use href='#lost' x='326' y='68'/><text class='q' x='338' y='72'>packet that never came</text>\n"
-    ∷ codes "<line class='o' x1='290' y1='84' x2='326' y2='84'/><use href='#open' x='326' y='84'/><text class='q' x='338' y='88'>in no inbox at the end</text>\n"
+    ∷ codes "<line class='p' x1='290' y1='68' x2='326' y2='68'/><use href='#lost' x='326' y='68'/><text class='q' x='338' y='72'>packet that doesn't come on this picture</text>\n"
+    ∷ codes "<line class='o' x1='290' y1='84' x2='326' y2='84'/><use href='#open' x='326' y='84'/><text class='q' x='338' y='88'>in no inbox on this picture</text>\n"
     ∷ codes "<use href='#l0' x='326' y='102'/><text class='q' x='338' y='104'>to its own machine</text>\n"
     ∷ codes "<text class='q' x='290' y='120'>acknowledgements, queues and idle turns aren't drawn</text>\n"
     ∷ []
