@@ -8,4 +8,5 @@ mod Sound
 mod RunsChecked
 mod DrillsChecked
 mod OwnDrilled
+mod LabelsChecked
 mod TracesFor
