@@ -73,13 +73,13 @@ buries_lawfully s m p here home h =
 
 -- a machine more may send on to this one
 pub preceded_lawful : (s : KernelState) (p : Pid) (machine : ℕ) → IsLawfulState s → IsLawfulState (preceded s p machine)
-preceded_lawful s p machine h = record { records = h.records; room = h.room; inbox = h.inbox; servers = h.servers }
+preceded_lawful s p machine h = record { records = h.records; room = h.room; inbox = h.inbox }
 
 -- a message goes on
 forwards_lawfully_and : (s : KernelState) (m : Message) (at moves : ℕ) (told : Bool) → s.here < 16 → IsMachine at → IsLawfulState s → IsLawfulMessage m → Lawfully (forwards_and s m at moves told)
 forwards_lawfully_and s m at moves true here machine h message =
     record {
-      state = record { records = h.records; room = h.room; inbox = h.inbox; servers = h.servers };
+      state = record { records = h.records; room = h.room; inbox = h.inbox };
       parts = said (routed_and _ _ (on_lawfully at moves m machine message) (routed _ (update_lawfully s m at moves here machine message)));
     }
 forwards_lawfully_and s m at moves false here machine h message = record { state = h; parts = said (routed _ (on_lawfully at moves m machine message)) }
@@ -196,7 +196,7 @@ stays_lawfully s p d here h lawful =
 pub gives_lawfully : (s : KernelState) (m : Message) (w : What) → s.here < 16 → IsLawfulState s → IsLawfulMessage m → is_answer (kind_of w) ≡ false → IsLawfulWhat w → Lawfully (gives_piece s m w)
 gives_lawfully s m w here h message no_answer lawful =
     record {
-      state = record { records = h.records; room = h.room; inbox = h.inbox; servers = h.servers };
+      state = record { records = h.records; room = h.room; inbox = h.inbox };
       parts = said (routed _ (own_lawfully s m.sender w here message.sender no_answer lawful));
     }
 
@@ -250,7 +250,7 @@ accepts_lawfully b s m p blocks moves size asker true here h message home asks =
 accepts_lawfully b s m p blocks moves size asker false here h message home asks =
     let free : (free_slots s.room ≤ 64) × (free_blocks s.room ≤ 4096) = free_lawfully s.room h.room.slots h.room.blocks in
     record {
-      state = record { records = h.records; room = h.room; inbox = h.inbox; servers = h.servers };
+      state = record { records = h.records; room = h.room; inbox = h.inbox };
       parts = said (routed _ (own_lawfully s m.sender (what.Refuse p (free_slots s.room) (free_blocks s.room)) here message.sender refl (home, free.0, free.1)));
     }
 
@@ -284,7 +284,7 @@ pull_asks p Nothing = refl
 took_lawfully : (s : KernelState) (m : Message) (p : Pid) (a : Arrival) → s.here < 16 → IsLawfulState s → IsLawfulMessage m → IsLawfulArrival a → Lawfully (took_piece s m p (Some a))
 took_lawfully s m p a here h message lawful =
     record {
-      state = record { records = knows s p (Incoming a) h lawful; room = h.room; inbox = h.inbox; servers = h.servers };
+      state = record { records = knows s p (Incoming a) h lawful; room = h.room; inbox = h.inbox };
       parts = said (routed _ (own_lawfully s m.sender (pull a.pid a.wanted) here message.sender (pull_asks a.pid a.wanted) (pull_lawfully a.pid a.wanted lawful.home)));
     }
 
@@ -356,14 +356,25 @@ called_off_lawfully s p here h = arriving_called_off s p (incoming_of (s.records
 -- a process is told to move
 told_lawfully : (s : KernelState) (p : Pid) (r : Result Message MoveError) → IsLawfulState s → IfOk r IsLawfulMessage → Lawfully (told_to_move s p r)
 told_lawfully s p (Ok m) h lawful =
-    record { state = record { records = h.records; room = h.room; inbox = h.inbox; servers = h.servers }; parts = routed m lawful }
+    record { state = record { records = h.records; room = h.room; inbox = h.inbox }; parts = routed m lawful }
 told_lawfully s p (Err no.Unknown) h lawful = record { state = h; parts = said none_said }
-told_lawfully s p (Err no.Pinned) h lawful = record { state = h; parts = said none_said }
 
-asks_manager_lawfully : (s : KernelState) (p : Pid) (machine : ℕ) (o : Option Servers) → s.here < 16 → IsMachine machine → IsLawfulState s → IfSome o IsLawfulPair → Lawfully (asks_manager s p machine o)
-asks_manager_lawfully s p machine None here to h pair = tt
-asks_manager_lawfully s p machine (Some v) here to h pair =
-    told_lawfully s p (moves_child v.manager.children p machine (own_id s)) h (moves_lawful v.manager.children p machine (own_id s) pair.manager.children to (omega arith) refl)
+asks_manager_lawfully : (s : KernelState) (p : Pid) (machine : ℕ) (o : Option Managing) → s.here < 16 → IsMachine machine → IsLawfulState s → IfSome o IsLawfulManager → Lawfully (asks_manager s p machine o)
+asks_manager_lawfully s p machine None here to h lawful = tt
+asks_manager_lawfully s p machine (Some g) here to h lawful =
+    told_lawfully s p (asks_to_move s.here g p machine (own_id s)) h (moves_lawful s.here g p machine (own_id s) lawful here to (omega arith) refl)
+
+resident_manager : (r : Resident) → IsLawfulResident r → IfSome (manager_of r) IsLawfulManager
+resident_manager (resident.Process x) h = tt
+resident_manager (resident.Board b) h = tt
+resident_manager (resident.Manager g) h = h
+
+manager_known : (o : Option KernelKnown) → IfSome o IsLawfulKnown → IfSome (manager_in o) IsLawfulManager
+manager_known None h = tt
+manager_known (Some (Here r)) h = resident_manager r h
+manager_known (Some (Frozen d)) h = tt
+manager_known (Some (Incoming a)) h = tt
+manager_known (Some (Forward place moves)) h = tt
 
 pub asks_move_lawfully : (s : KernelState) (p : Pid) (machine : ℕ) → s.here < 16 → IsMachine machine → IsLawfulState s → Lawfully (asks_move s p machine)
-asks_move_lawfully s p machine here to h = asks_manager_lawfully s p machine s.servers here to h h.servers
+asks_move_lawfully s p machine here to h = asks_manager_lawfully s p machine (manager_in (s.records manager)) here to h (manager_known (s.records manager) (h.records manager))

@@ -190,7 +190,7 @@ here_always b s (p ∷ ps) = here_always b (begins_process b s p (slice_get b.im
 no_names : All IsLawfulNamed []
 no_names = All-nil IsLawfulNamed
 
-servers_lawfully : (b : Boot) (test : Bool) → IsValid b → IfSome (if test then Some (record { board = record { names = []; sent = 0 }; manager = starting b }) else None) IsLawfulPair
+servers_lawfully : (b : Boot) (test : Bool) → IsValid b → IfSome (if test then Some (record { board = record { names = []; sent = 0; moves = 0 }; manager = starting b }) else None) IsLawfulPair
 servers_lawfully b true valid = record { board = no_names; manager = started_lawful (Ok (starting b)) b valid refl }
 servers_lawfully b false valid = tt
 

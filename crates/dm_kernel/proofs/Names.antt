@@ -84,21 +84,22 @@ pub use Rattle.dm_kernel.proofs.All.{with_all}
 pub use Rattle.dm_kernel.specs.Asking.{asks_manager, asks_move, told_to_move}
 pub use Rattle.dm_kernel.specs.Begun.{begins_process, child_of, empty, opened, room_of, with_child}
 pub use Rattle.dm_kernel.specs.Burying.{after_end, buries, ends_with, hears_bury, preds_of, with_told}
-pub use Rattle.dm_kernel.specs.Coming.{accepts, answers_ask, calling_off, calls_arriving_off, calls_off, hears_piece, holds_arriving, if_expected, is_expected, is_not_called, piece_line, restarts, restarts_as, says_stale, takes_piece}
+pub use Rattle.dm_kernel.specs.Coming.{accepts, answers_ask, calling_off, calls_arriving_off, calls_off, hears_piece, holds_arriving, if_expected, is_expected, is_not_called, restarts, restarts_as, says_stale, takes_piece, piece_lines}
 pub use Rattle.dm_kernel.specs.Coming.{took_piece, turns_back, without_arriving}
 pub use Rattle.dm_kernel.specs.Departing.{asked_to_move, freezes, freezing, gives_piece, holds_leaving, leaves, migrates, stays, tells_asker, with_frozen}
 pub use Rattle.dm_kernel.specs.Following.{board_follows, forwards, forwards_and, manager_follows, process_follows}
-pub use Rattle.dm_kernel.specs.Handle.{answers_with, board_handles, board_took, ended_handles, handles, here_handles, kernel_handles, lands, lands_as, makes, makes_of, manager_handles, manager_took, next_pid, process_handles, routes}
-pub use Rattle.dm_kernel.specs.Handle.{told_board, told_manager, unknown_handles}
-pub use Rattle.dm_kernel.specs.Lawful.{AreLawful, IsLawfulArrival, IsLawfulAsker, IsLawfulDeparture, IsLawfulKnown, IsLawfulPair, IsLawfulPart, IsLawfulRoom, IsLawfulState, IsLawfulTurned}
-pub use Rattle.dm_kernel.specs.May.{CanTellAll, FitsBoardWhat, FitsEnded, FitsHere, FitsKernel, FitsKnown, FitsManager, FitsManagerWhat, FitsUnknown, FrontMay, IsSuch, MayAct, MayHandle, MayRestart, MayTurn, most}
+pub use Rattle.dm_kernel.specs.Handle.{answers_with, board_handles, board_took, ended_handles, handles, here_handles, kernel_handles, lands, lands_as, makes, makes_of, manager_handles, manager_took, next_pid, process_handles, routes, resident_handles}
+pub use Rattle.dm_kernel.specs.Handle.{told_board, told_manager}
+pub use Rattle.dm_kernel.specs.Lawful.{AreLawful, IsLawfulArrival, IsLawfulAsker, IsLawfulDeparture, IsLawfulKnown, IsLawfulPart, IsLawfulRoom, IsLawfulState, IsLawfulTurned}
+pub use Rattle.dm_kernel.specs.May.{CanTellAll, FitsEnded, FitsHere, FitsKernel, FitsKnown, FitsManager, FrontMay, IsSuch, MayAct, MayHandle, MayRestart, MayTurn, most, FitsResident, MayFreeze}
 pub use Rattle.dm_kernel.specs.Meets.{Answers, IsIn, Meets, MeetsSome, kernel_state}
 pub use Rattle.dm_kernel.specs.Serve.{Ran, after_row, called_with, completed_label, does, ends, executes, halts, one_more, processor_of, ran, received, received_by, receives, serves, serves_status, with_machine}
 pub use Rattle.dm_kernel.specs.Served.{Executes, IsHere, Receives, Serves}
-pub use Rattle.dm_kernel.specs.State.{KernelKnown, KernelState, Turned, before_turn, blocks_of, drops, forgets, own, own_id, preceded, says, turned, with_here, with_known, with_sent, without_process}
+pub use Rattle.dm_kernel.specs.State.{KernelKnown, KernelState, Turned, before_turn, blocks_of, drops, forgets, own, own_id, preceded, says, turned, with_here, with_known, with_sent, without_process, board_in, manager_in, process_in, ring_with}
 pub use Rattle.dm_kernel.specs.Turn.{first_runnable, goes_round, known_is_runnable, turn, turns}
 pub use Rattle.dm_kernel.specs.declared.kernel.Kernel.{Kernel}
 pub use Rattle.dm_kernel.specs.declared.kernel.Servers.{Servers}
 pub use Rattle.dm_kernel.specs.declared.part.Part.{Part}
 pub use Rattle.dm_kernel.specs.declared.part.Part.TheVariants.{Routes, Says}
 pub use Rattle.dm_kernel.specs.declared.run.Halt.{Halt}
+pub use Rattle.dm_resident.specs.Lawful.{IsLawfulResident}

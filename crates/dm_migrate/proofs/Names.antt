@@ -22,8 +22,11 @@ pub use Rattle.dm_migrate.specs.Arrival.{Arrival, IsNextChunk, IsNextPiece, IsSt
 pub use Rattle.dm_migrate.specs.Cargo.{Cargo, cargo_of}
 pub use Rattle.dm_migrate.specs.Coming.{IsComing, IsStage, Parts, come_of}
 pub use Rattle.dm_migrate.specs.Departure.{CanMove, Departure, sent_on}
-unfoldable pub use Rattle.dm_migrate.specs.Departure.{IsReadAgain}
-pub use Rattle.dm_migrate.specs.Pieces.{HasBlock, HasChunk, block_of, chunk_bytes, chunk_of, is_last, state_of}
-pub use Rattle.dm_migrate.specs.Way.{ArrivesWhole, CanCome, ComesByPieces, ComesWhole, Goes, HasPiece, coming, count_of_pieces, moved, piece_for}
+unfoldable pub use Rattle.dm_resident.specs.Packed.{IsReadAgain}
+pub use Rattle.dm_migrate.specs.Pieces.{HasBlock, HasChunk, block_of, chunk_bytes, chunk_of, is_last}
+pub use Rattle.dm_migrate.specs.Way.{ArrivesWhole, CanCome, ComesByPieces, ComesWhole, Goes, HasPiece, coming, count_of_pieces, piece_for}
 pub use Rattle.dm_migrate.specs.declared.arriving.Wanted.{Wanted}
 pub use Rattle.dm_migrate.specs.declared.arriving.Wanted.TheVariants.{Block, Chunk, Nothing}
+pub use Rattle.dm_resident.specs.Residents.{name_of, moves_of, memory_of, blocks_of, queue_of, with_queue, moved}
+pub use Rattle.dm_resident.specs.Lawful.{HasFewAddresses, IsLawfulResident}
+pub use Rattle.dm_resident.specs.Packed.{state_of}

@@ -1,7 +1,7 @@
 -- What moves, as the kernel with places has it: the process that it is of, and that it stays where the process does.
 use Rattle.dm_mirror.proofs.Names.{◌≡◌, ◌∙◌, ℕ, List, [], refl, ap, sym, subst, Option, None, Some, option_map, Pid, MsgId, Asker, Process, Departure, Placed, IsSuch, LeavesStand, Cargo, CanCome, CanBeCarried, ComesStand, Arrival, Nothing}
 use Rattle.dm_mirror.proofs.Names.{coming, comes_back, restarted, length, can_come, cargo_at, cargo_of}
-use Rattle.dm_migrate.specs.Way.{moved}
+use Rattle.dm_resident.specs.Residents.{moved}
 
 -- where the process stays, and who waits to hear of it, so does what moves
 pub cargo_same : (l u : Placed) (p : Pid) → u.processes p ≡ l.processes p → u.notes p ≡ l.notes p → cargo_at u p ≡ cargo_at l p

@@ -106,7 +106,7 @@ restarted start p asked ps w is e =
       known = a.known;
     })
 
-rises : (b : Boot) (pt : Point) (d : Step) (w : Spelled) (n : ℕ) (g : GroupIs b pt d w) → Sort pt (actor d) g.parts → Run b pt → Run b w.point → PairsWithin n w.point.view → Under (first_count + total pt.view n) pt.kernel → MovesFew n pt.view → Rises n w.point
+rises : (b : Boot) (pt : Point) (d : Step) (w : Spelled) (n : ℕ) (g : GroupIs b pt d w) → Sort pt (actor pt.view d) g.parts → Run b pt → Run b w.point → PairsWithin n w.point.view → Under (first_count + total pt.view n) pt.kernel → MovesFew n pt.view → Rises n w.point
 rises b pt d w n g (Pays paid) run after within under moves =
     let start = begun pt d in
     let e = ends g.parts (first_count + total pt.view n) start g.rest g.said paid under in
@@ -118,16 +118,16 @@ rises b pt d w n g (Restarts p front asked is) run after within under moves =
     let start = begun pt d in
     let r = subst (Restarted start p) g.point (restarted start p asked g.parts g.rest is g.said) in
     let head_known : (view_after pt.view (Line.Head d)).known ≡ pt.view.known = grind (arith, nat_tests) in
-    restart_rises b n (actor d) pt w.point p run after front r.under (grows_on pt.view start.view w.point.view (line_grows pt.view (Line.Head d)) r.grows)
+    restart_rises b n (actor pt.view d) pt w.point p run after front r.under (grows_on pt.view start.view w.point.view (line_grows pt.view (Line.Head d)) r.grows)
     (r.moves ∙ ap (λ (f : Pid → ℕ). at_pid f p (f p + 1)) (head_moves pt d))
-    (r.known ∙ ap (λ (m : ℕ). at_record start.view.known m p Known.Here) (let e_ : (view_after pt.view (Line.Head d)).acting ≡ actor d = grind (arith, nat_tests) in e_) ∙ ap (λ f. at_record f (actor d) p Known.Here) head_known) under moves
+    (r.known ∙ ap (λ (m : ℕ). at_record start.view.known m p Known.Here) (let e_ : (view_after pt.view (Line.Head d)).acting ≡ actor pt.view d = grind (arith, nat_tests) in e_) ∙ ap (λ f. at_record f (actor d) p Known.Here) head_known) under moves
 
 -- each group
 few_group : (b : Boot) (pt : Point) (d : Step) (w : Spelled) (n : ℕ) → 0 < n → pt.kernel.machines ≡ n → IsStep n d → group_of b pt d ≡ Some w → Run b pt → Run b w.point → Few n pt → Few n w.point
 few_group b pt d w n some machines fit is run after h =
     let g = group_is b pt d w is in
     let within = within_group b pt d w n some machines (machines_group b pt d w is ∙ machines) fit is run.based.phased.pairs after h.within in
-    let r = rises b pt d w n g (subst (SortIf pt (actor d)) g.is (outcome_sort b pt d run)) run after within h.under h.moves in
+    let r = rises b pt d w n g (subst (SortIf pt (actor pt.view d)) g.is (outcome_sort b pt d run)) run after within h.under h.moves in
     let routed_group : Routed w.point.view = group_keeps Routed (λ v a k i told. let r = k i told in record { from = r.from; to = r.to; there = r.there }) line_routed b pt d w is h.routed in
     record { within = within; own = group_keeps (OwnFew n) (λ v a k. k) (line_own n) b pt d w is h.own; under = r.under; moves = r.moves; routed = routed_group }
 

@@ -95,12 +95,12 @@ pub nothing_comes : NothingComes
 nothing_comes b w a c k none = ap (delivers w (Step.Deliver a c k) a c k) none
 
 -- an event that gives the same to both worlds
-acted_same : (b : Boot) (w u : WorldState) (e : Step) (s : Said) (kept there : Pid → Option Why) (d : Acted) → IsFrom (actor e) d → s ≡ acted (record (marked_by e w) { ended = kept }) e (actor e) d
-    → world_step b u e ≡ Some (Says (acted (record (marked_by e u) { ended = there }) e (actor e) d)) → DoesSame b w u e s
+acted_same : (b : Boot) (w u : WorldState) (e : Step) (s : Said) (kept there : Pid → Option Why) (d : Acted) → IsFrom (acts_on b w e) d → s ≡ acted (record (marked_by e w) { ended = kept }) e (acts_on b w e) d
+    → world_step b u e ≡ Some (Says (acted (record (marked_by e u) { ended = there }) e (acts_on b w e) d)) → DoesSame b w u e s
 acted_same b w u e s kept there d from said happens =
     let marked_long : (m : ℕ) (e : Step) (w u : WorldState) → AsLong m w u → AsLong m (marked_by e w) (marked_by e u) = λ m e w u h n. grind (arith, nat_tests, length_marked) in
     let acted_node : (w : WorldState) (e : Step) (m : ℕ) (d : Acted) → (acted w e m d).state.nodes m ≡ d.state = λ w e m d. ap (λ (c : Bool). if c then d.state else w.nodes m) (let f : (m == m) ≡ true = grind (arith, nat_tests) in f) in
-    let m = actor e in
+    let m = acts_on b w e in
     let x = record (marked_by e w) { ended = kept } in
     let y = record (marked_by e u) { ended = there } in
     let acted_unnumbered : (w u : WorldState) (e : Step) (m : ℕ) (d : Acted) → map unnumbered (acted u e m d).lines ≡ map unnumbered (acted w e m d).lines =

@@ -21,9 +21,8 @@ pub use Rattle.dm_statebytes.proofs.Sizes.{numbers_size}
 unfoldable pub use Rattle.dm_statebytes.specs.Shell.{registers, shell_spelling}
 pub use Rattle.dm_migrate.proofs.Names.{CanCome, CanMove, Cargo, ComesByPieces, HasBlock, HasPiece, IsNextPiece, Shell, after_block, after_chunk, cargo_of, coming, is_last, map-append, shell_of}
 pub use Rattle.dm_migrate.proofs.Way.{by_pieces, can_come, comes_back}
-pub use Rattle.dm_migrate.specs.Answer.{IsAskOfProcess}
 pub use Rattle.dm_migrate.specs.Cargo.{ask_for}
-unfoldable pub use Rattle.dm_migrate.specs.Departure.{IsReadAgain}
+unfoldable pub use Rattle.dm_resident.specs.Packed.{IsReadAgain}
 pub use Rattle.dm_onekernel.specs.Step.{why_ended}
 pub use Rattle.dm_switchboard.proofs.Imports.{Board}
 pub use Rattle.dm_switchboard.proofs.Plain.{plain_request}
@@ -83,7 +82,7 @@ pub use Rattle.dm_rule.specs.Worn.{full_route, is_full, worn_in}
 pub use Rattle.dm_places.proofs.Any.AnyLine.{no_process}
 pub use Rattle.dm_places.proofs.Any.AnyRun.{group_needs, places_follow_by}
 pub use Rattle.dm_places.proofs.Following.Changed.{free_off, plain_sent_on}
-pub use Rattle.dm_places.proofs.Following.Followed.{among_times, called_mirrors, forwarded_mirrors, moves_forwarded, restarted_mirrors, sent_on_mirrors, update_gets}
+pub use Rattle.dm_places.proofs.Following.Followed.{among_times, called_mirrors, forwarded_mirrors, moves_forwarded, process_restarted, sent_on_mirrors, update_gets}
 pub use Rattle.dm_places.proofs.Following.Updated.{board_told, manager_told, updated_board_mirrors, updated_ended_mirrors, updated_manager_mirrors, updated_mirrors}
 pub use Rattle.dm_places.proofs.Following.UpdatedCounts.{updated_board_count, updated_count, updated_manager_count}
 pub use Rattle.dm_places.proofs.Keeps.{of_map, parts, there_of}
@@ -100,7 +99,7 @@ pub use Rattle.dm_places.proofs.Names.{id_eq-same, id_eq-swap, id_of, instructio
 pub use Rattle.dm_places.proofs.Names.{named_is_behind, nat_le, not_kernels, or-left, or-right, or_second, outcome, own_given, own_id, pending_is_behind, pending_request, pid_eq-is, pid_eq-same, piece_of, place_of, place_told, placed_start}
 pub use Rattle.dm_places.proofs.Names.{placed_step, plain_board, plain_called, plain_child, plain_completed, plain_kind, plain_landed, plain_link, plain_manager, plain_message, plain_named, plain_note, plain_pending, plain_pending_numbered}
 pub use Rattle.dm_places.proofs.Names.{plain_process, plain_status, plain_what, preds_of, puts, receiver_of, seen, sent_all, sent_on, slice_get-map, slot_is_behind, slots_of, slots_with, sort_of, spelled, standing, started, started_at}
-pub use Rattle.dm_places.proofs.Names.{status_plainly, times, to_kernel, unmoved, view_after, what_is_on, when-is, with_note, with_what, without_note, written_at}
+pub use Rattle.dm_places.proofs.Names.{acting_place, status_plainly, times, to_kernel, unmoved, view_after, what_is_on, when-is, with_note, with_what, without_note, written_at}
 pub use Rattle.dm_places.proofs.OwnPuts.{child_place, no_child, own_put_mirrors}
 pub use Rattle.dm_places.proofs.Queues.{calls_with, with_queue}
 pub use Rattle.dm_places.proofs.Starts.{start_mirrors}
@@ -119,7 +118,7 @@ pub use Rattle.dm_kernel.proofs.Names.{without_first_on, without_preds, ◌/◌}
 pub use Rattle.dm_kernel.proofs.Opening.{room_from}
 pub use Rattle.dm_kernel.proofs.Serving.{call_keeps, ran_keeps}
 pub use Rattle.dm_kernel.specs.Carried.{FreezesReceiverWhole, KnownIsWhole}
-pub use Rattle.dm_kernel.specs.Coming.{is_expected, piece_line, with_expected}
+pub use Rattle.dm_kernel.specs.Coming.{is_expected, with_expected, piece_lines}
 pub use Rattle.dm_kernel.specs.Departing.{without_leaving}
 pub use Rattle.dm_kernel.specs.Handle.{queued}
 pub use Rattle.dm_kernel.specs.May.{FitsBoard, MayLeave}
@@ -194,6 +193,7 @@ pub use Rattle.dm_mirror.specs.Own.{AllOwnStand, OwnStands, about_of, told_of}
 pub use Rattle.dm_mirror.specs.Ran.{Ran, RanBegins, RanGoesOn, RunIsRan, ones}
 pub use Rattle.dm_mirror.specs.Run.{GoesOn, RunStands, Steps, StopsWorn, joined}
 pub use Rattle.dm_mirror.specs.Stands.{AreMessages, CanBeCarried, ComesStand, CountsStand, HereStands, History, KernelStands, KnownStands, LeavesStand, NodeStands, PairStands, PredsStand, RoomStands, Stands, StandsWith, bytes_of, line_of}
-pub use Rattle.dm_mirror.specs.Stands.{load_of, message_id, servers_at, stream_of}
+pub use Rattle.dm_mirror.specs.Stands.{load_of, message_id, stream_of}
 pub use Rattle.dm_mirror.specs.Todo.{IsDirective, IsTodo, IsTwo}
-pub use Rattle.dm_mirror.specs.Tokens.{AllRecords, Carries, IsAsked, LeftCarries, LeftStands, TokenStands, TokensStand, Wants, cargo_at, destination_of, is_due_piece, is_piece, source_of}
+pub use Rattle.dm_mirror.specs.Tokens.{AllRecords, Carries, IsAsked, LeftCarries, LeftStands, TokenStands, TokensStand, Wants, cargo_at, destination_of, is_due_piece, is_piece, source_of, resident_at}
+pub use Rattle.dm_migrate.specs.Answer.{IsAskToCome}

@@ -108,7 +108,7 @@ pub use Rattle.dm_rulelaws.proofs.Goes.Parts.{some_is}
 pub use Rattle.dm_rulelaws.proofs.Goes.Runs.{Both, both_group, both_start}
 pub use Rattle.dm_rulelaws.proofs.Goes.Serves.{first_is}
 pub use Rattle.dm_rulelaws.proofs.Goes.Turns.{times_more, times_self}
-pub use Rattle.dm_rulelaws.proofs.Names.{About, Addresses, Again, Alive, AllSayable, Answer, AskedBy, AtHome, BagStep, Bool, Boot, BootImage, BootProcess, Called, Child, Direction, Due, Enclosed, Ended, Forward, Frozen, Gets, Grown, Held}
+pub use Rattle.dm_rulelaws.proofs.Names.{About, Addresses, Again, Alive, AllSayable, Answer, AskedBy, ToBoard, AtHome, BagStep, Bool, Boot, BootImage, BootProcess, Called, Child, Direction, Due, Enclosed, Ended, Forward, Frozen, Gets, Grown, Held}
 pub use Rattle.dm_rulelaws.proofs.Names.{Here, Holder, InPhases, Inbox, Incoming, IsIn, IsLeft, IsNet, IsNetLine, IsPending, IsStep, IsValid, KernelFits, Known, KnownStands, Label, Leads, LeadsBy, LeftOver, Life, LifeGrows, Line, Links}
 pub use Rattle.dm_rulelaws.proofs.Names.{List, Load, Manager, MessageKind, MoveNote, Moves, Moving, MsgId, Name, Named, NamedLink, None, NothingElse, Of, OneKernel, Option, Outcome, Outside, Owner, Owns, Pair, Part, Pending, PendingKind}
 pub use Rattle.dm_rulelaws.proofs.Names.{Phase, Phased, Pid, Place, PlainLink, PlainMessage, PlainProcess, PlainStatus, PlainWhat, Point, Queue, Ready, ReceivedAt, Receiver, Reply, Rests, Rooted, Routes, SaidOn, Sane, Sayable, Says, Sender}

@@ -215,14 +215,13 @@ turn_stays b s = turns_stays b (before_turn s) s.inbox
 told_stays : (s : KernelState) (p : Pid) (r : Result Message MoveError) → StaysAt s.here (told_to_move s p r)
 told_stays s p (Ok m) = refl
 told_stays s p (Err no.Unknown) = refl
-told_stays s p (Err no.Pinned) = refl
 
-asks_manager_stays : (s : KernelState) (p : Pid) (machine : ℕ) (o : Option Servers) → StaysAt s.here (asks_manager s p machine o)
+asks_manager_stays : (s : KernelState) (p : Pid) (machine : ℕ) (o : Option Managing) → StaysAt s.here (asks_manager s p machine o)
 asks_manager_stays s p machine None = tt
-asks_manager_stays s p machine (Some v) = told_stays s p (moves_child v.manager.children p machine (own_id s))
+asks_manager_stays s p machine (Some g) = told_stays s p (asks_to_move s.here g p machine (own_id s))
 
 pub asks_move_stays : (s : KernelState) (p : Pid) (machine : ℕ) → StaysAt s.here (asks_move s p machine)
-asks_move_stays s p machine = asks_manager_stays s p machine s.servers
+asks_move_stays s p machine = asks_manager_stays s p machine (manager_in (s.records manager))
 
 -- calling a migration off
 arriving_called_off : (s : KernelState) (p : Pid) (o : Option Arrival) → StaysAt s.here (calls_arriving_off s p o)

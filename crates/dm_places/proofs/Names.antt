@@ -43,7 +43,7 @@ pub use Rattle.dm_rule.proofs.Homes.Serves.{child_at, gone_lands, nothing_lands,
 pub use Rattle.dm_rule.proofs.Homes.Slots.{emptied_link, past_call, set_link}
 pub use Rattle.dm_rule.proofs.Homes.Steps.{OnlySlots, gives_same, made_is, only_gives_by}
 pub use Rattle.dm_rule.proofs.Letters.{not_kernels}
-pub use Rattle.dm_rule.proofs.Names.{About, Addresses, Again, Alive, Answer, AskedBy, Bool, Boot, BootImage, BootProcess, CallNumber, Child, Direction, Enclosed, Ended, Fault, Forward, Frozen, Gets, Holder, Inbox, Incoming, IsStep, IsValid}
+pub use Rattle.dm_rule.proofs.Names.{About, Addresses, Again, Alive, Answer, AskedBy, ToBoard, Bool, Boot, BootImage, BootProcess, CallNumber, Child, Direction, Enclosed, Ended, Fault, Forward, Frozen, Gets, Holder, Inbox, Incoming, IsStep, IsValid}
 pub use Rattle.dm_rule.proofs.Names.{Known, Label, Leads, Life, Line, Link, List, Load, Manager, MessageKind, MoveNote, MsgId, Name, NamedLink, None, One, OneKernel, Option, Outcome, Owner, Owns, Pair, Part, PendingKind, Pid, Place}
 pub use Rattle.dm_rule.proofs.Names.{PlainLink, PlainMessage, PlainProcess, PlainStatus, PlainWhat, Point, Receiver, Regs, Reply, Routes, Row, Says, Sender, SentLoad, Slot, Some, Sort, Sound, Spelled, Spot, Stage, Step, TellsRight, Told}
 pub use Rattle.dm_rule.proofs.Names.{Transmits, View, Why, [], act_of, acting_place, addresses_by, after, after_head, after_label, after_line, after_step, all_follow, answer_gets, answer_id, answer_to, ap, arith, ascends, at_hand-is}

@@ -36,3 +36,4 @@ pub mod Ordered
 pub mod Rooted
 pub mod Apart
 pub mod Trails
+pub mod KnownPlaces

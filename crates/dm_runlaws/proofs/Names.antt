@@ -20,7 +20,7 @@ pub use Rattle.dm_rulelaws.proofs.Decided.{shorter_begins}
 pub use Rattle.dm_rulelaws.proofs.Names.{IsNetLine, IsRun, LeadsBy, group_is, is_put, labels}
 pub use Rattle.dm_rulelaws.proofs.RunsAlways.{goes_on_always, receives_in_order}
 pub use Rattle.dm_movelaws.proofs.Names.{act_of, count, group_replay, labels-append, line_view, onward, or, pair_same, replay-append, run_always, said, taken_pair}
-pub use Rattle.dm_movelaws.proofs.Real.Always.{head_less}
+pub use Rattle.dm_rule.proofs.Trails.Within.{head_less}
 pub use Rattle.dm_settlelaws.proofs.Falls.LeftFalls.{left_falls}
 pub use Rattle.dm_settlelaws.proofs.Falls.Less.{Falls, by_left}
 pub use Rattle.dm_settlelaws.proofs.FewSteps.FewPuts.{few_puts}

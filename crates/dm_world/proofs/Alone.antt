@@ -97,7 +97,7 @@ delivers_alone w e a c k (Some bytes) h may =
     (reads_alone (record w { wires = after_mark w.wires a c k }) e a c (packet_of bytes) h (marked_read w a c k (packet_of bytes) may))
 
 step_alone : (b : Boot) (w : WorldState) (e : Step) → images_are_valid b.images ≡ true → length b.machines ≤ 16 → ((m : ℕ) → m < length b.machines → here (w.nodes m) ≡ m) → MayStep b w e
-    → AloneIn (acts_on e) w (world_step b w e)
+    → AloneIn (acts_on b w e) w (world_step b w e)
 step_alone b w (step.Turn m) images few h may =
     let o = node.turn b (w.nodes m) in
     kept_alone w (with_over w.ended (over_in o)) m (world_step b w (step.Turn m))
@@ -122,5 +122,5 @@ alone_met m w s lines (Some g) met h =
     subst P (sym met.happened) h
 
 pub alone : (b : Boot) (w s : WorldState) (e : Step) (lines : List Line) → images_are_valid b.images ≡ true → length b.machines ≤ 16 → ((m : ℕ) → m < length b.machines → here (w.nodes m) ≡ m) → MayStep b w e
-    → MeetsSome s lines (world_step b w e) → ActsAlone (acts_on e) w s
-alone b w s e lines images few h may met = alone_met (acts_on e) w s lines (world_step b w e) met (step_alone b w e images few h may)
+    → MeetsSome s lines (world_step b w e) → ActsAlone (acts_on b w e) w s
+alone b w s e lines images few h may met = alone_met (acts_on b w e) w s lines (world_step b w e) met (step_alone b w e images few h may)

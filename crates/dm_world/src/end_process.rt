@@ -5,12 +5,14 @@ ghost use Rattle.dm_line.specs.declared.end_line.Standing.TheVariants as standin
 ghost use Rattle.dm_migrate.specs.Arrival.{revived};
 ghost use Rattle.dm_world.specs.Ends.{SaysSome, alive_lines, come_lines, come_whole, doing_of, link_lines, parts_lines};
 
+use crate::end_lines::say_resident;
 use arrayvec::ArrayVec;
 use dm_line::end_line::{Doing, EndLine, Standing};
 use dm_link::Pid;
 use dm_linktable::Table;
 use dm_memory::{NoMemory, push};
 use dm_migrate::{Arriving, Wanted};
+use dm_onekernel::Boot;
 use dm_process::{Process, Status};
 use dm_processor::{BLOCK, Memory, Regs};
 use dm_statebytes::Shell;
@@ -40,20 +42,27 @@ pub fn say_alive(
     say_parts(pid, &process.regs, &process.memory, &process.table, lines)
 }
 
-/// The lines of a process that comes to machine `m`, if all of it has come; whether it has.
+/// The lines of a process or a server that comes to machine `m`, if all of it has come; whether it has.
 pub fn say_arriving(
     alloc: Global,
     m: u8,
+    boot: &Boot,
     pid: Pid,
     arriving: &Arriving,
     lines: &mut Vec<EndLine>,
 ) -> Result<bool, NoMemory>
-    ensures { IfOk result (λ said. SaysSome said lines.old.items lines.new.items (come_lines m pid (come_whole arriving.now arriving.now.wanted))) }
+    ensures { IfOk result (λ said. SaysSome said lines.old.items lines.new.items (come_lines m pid (come_whole boot.now arriving.now arriving.now.wanted))) }
 {
     match arriving.wanted() {
         Wanted::Nothing => {
-            let table = Table::new(alloc, arriving.cap())?;
-            say_come(m, pid, &arriving.shell(table), arriving.memory(), lines)?;
+            if arriving.is_process() {
+                let table = Table::new(alloc, arriving.cap())?;
+                say_come(m, pid, &arriving.shell(table), arriving.memory(), lines)?;
+            } else {
+                let machines = boot.machines.len() as u8;
+                let server = arriving.server(machines, boot.images.len() as u16)?;
+                say_resident(m, pid, Standing::Arriving, &server, lines)?;
+            }
             Ok(true)
         }
         Wanted::Chunk(_) => Ok(false),

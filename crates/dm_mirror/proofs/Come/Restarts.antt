@@ -1,7 +1,7 @@
 -- A process that has come goes on: it is here, at the ring's back, and what was held for it comes before the inbox.
 use Rattle.dm_mirror.proofs.Names.{takes_room, ◌≡◌, ◌≢◌, ℕ, ◌+◌, ◌/◌, ◌≤◌, ◌==◌, Bool, true, false, List, [], ◌∷◌, ◌++◌, length, map, refl, ap, ◌∙◌, sym, subst, inl, inr, arith, if◌then◌else◌, Option, Some, cases_Bool, nat_tests}
 use Rattle.dm_mirror.proofs.Names.{false≢true, Pid, pid_eq, Message, MsgId, What, Record, Line, Stage, MessageKind, kind_of, incoming_of, with_record, Nothing, Boot, bind, plain_process, pid_eq-is, pid_eq-same, told_step, Moves, is_early}
-use Rattle.dm_mirror.proofs.Names.{knows, Point, moved, fits, free_room, at_machine, Spot, Held, Inbox, standing, times, Known, Here, Of, View, once_at, times-append, is_server, has_no_queue, Placed, restarted_mirrors, mirrors_view}
+use Rattle.dm_mirror.proofs.Names.{knows, Point, moved, fits, free_room, at_machine, Spot, Held, Inbox, standing, times, Known, Here, Of, View, once_at, times-append, is_server, has_no_queue, Placed, process_restarted, mirrors_view}
 use Rattle.dm_mirror.proofs.Names.{restarts, restarts_as, kernel_handles, KernelState, AreMessages, KnownStands, AllRecords, Carries, least_of, at_record_at, Outcome, Arrival, tells_asker, Told, is_between, sort_of, drop, Cargo, LeftStands}
 use Rattle.dm_mirror.proofs.Names.{is_due_piece, pulls_piece}
 use Rattle.dm_rule.proofs.Names.{Part}
@@ -123,7 +123,7 @@ turns_restart b m pt l records k y p q c e =
     let ends : EndsMove b m pt l records k p line state next.view placed = record {
       run = c.run;
       said = refl;
-      mirrors = restarted_mirrors (begun pt m) l p x (mirrors_view pt.kernel v (begun pt m).view pt.addresses l refl c.mirrors) a.is_process;
+      mirrors = process_restarted (begun pt m) l p x a.server (mirrors_view pt.kernel v (begun pt m).view pt.addresses l refl c.mirrors) a.is_process;
       kernel = stands_set b pt next l placed m k state p (search (others, set, record_others, mine, keeps)) stands
           (ap (λ ring. ring ++ p ∷ []) stands.ring ∙ sym (machine_self v.ring m (v.ring m ++ p ∷ [])))
           (subst (λ (is : List MsgId). AreMessages l.bag is (h.arrival.held ++ c.rest)) (sym (machine_self front m (v.held m p ++ front m) ∙ back_box))

@@ -101,7 +101,7 @@ turns_sort b pt m [] run e =
     paid_sort pt m (rule.goes_round b pt m p) (round_paid b pt m p)
 turns_sort b pt m (i ∷ is) run e = comes_sort b pt m i is (pt.kernel.bag i) run e refl
 
-pub outcome_sort : (b : Boot) (pt : Point) (d : Step) → Run b pt → SortIf pt (actor d) (outcome b pt d)
+pub outcome_sort : (b : Boot) (pt : Point) (d : Step) → Run b pt → SortIf pt (actor pt.view d) (outcome b pt d)
 outcome_sort b pt (Step.Turn m) run = turns_sort b pt m (pt.view.inbox m) run refl
 outcome_sort b pt (Step.Tick m) run = Pays (net_paid (Says (Line.Resent m (rule.outstanding_count pt.view m pt.kernel.machines)) ∷ rule.resends pt.view m pt.kernel.machines) pt.kernel (tt, resends_net pt.view m pt.kernel.machines))
 outcome_sort b pt (Step.Deliver a c k) run =

@@ -4,7 +4,7 @@ use Rattle.dm_mirror.proofs.Names.{incoming_of, Arrival, Nothing, Boot, Alive, p
 use Rattle.dm_mirror.proofs.Names.{Placed, WorldState, alive_lines, awaited_lines, come_lines, first_awaited, first_had, first_says, lines_in, record_lines, record_queue, told_of, History, KnownStands, StandsWith, Wants, alive-is, []}
 use Rattle.dm_mirror.proofs.Names.{Message, MsgId, What, kind_of, Here, Frozen, Forward, come_whole, held_for, names_of, has_nothing_held, AreMessages, ComesStand, Carries, ◌≤◌, ◌∷◌, length, map, IfSome, IsValid, Manager, plain_child}
 use Rattle.dm_mirror.proofs.Names.{IsLawfulPair, Servers, Step, Leads, first_point, HasPlainEnd, EndMay, servers_at, Cargo, PlainProcess, Ended, ended_away, living_phase, Life, Why, false≢true}
-use Rattle.dm_migrate.specs.Way.{moved}
+use Rattle.dm_resident.specs.Residents.{moved}
 use Rattle.dm_onekernel.specs.Step as kernel
 use Rattle.dm_rule.specs.Ends as rule
 use Rattle.dm_kernel.specs.State as machine

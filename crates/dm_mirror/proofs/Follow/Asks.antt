@@ -3,7 +3,8 @@ use Rattle.dm_mirror.proofs.Names.{Child, ◌≡◌, ℕ, ◌+◌, ◌≤◌, �
 use Rattle.dm_mirror.proofs.Names.{pid_eq, pid_of, place_of, Message, What, MessageKind, MoveError, Step, id_of, Boot, manager, switchboard, address_at, child_named, moves_child, tells_to_move, asks_manager, asks_move, told_to_move}
 use Rattle.dm_mirror.proofs.Names.{KernelState, id_eq-same, pid_eq-is, Line, Receiver, Sender, child_number, unmoved, migrates, migrates_child, Point, after, moved, at_machine, standing, Run, Placed, Mirrors, mirrors_view, child_place}
 use Rattle.dm_mirror.proofs.Names.{no_child, AllOwnStand, KernelStands, AllRecords, TokensStand, ◌≢◌, ◌&&◌, not, kind_of, plain_what, Known, Unknown, Here, Frozen, Incoming, Forward, is_server, is_fixed, is_place, is_target, own_sort, Part}
-use Rattle.dm_mirror.proofs.Names.{option_map_or, with_sent}
+use Rattle.dm_mirror.proofs.Names.{option_map_or, with_sent, acting_place}
+use Rattle.dm_places.proofs.Keeps.{place_after}
 use Rattle.dm_mirror.proofs.Follow.Forwards.{next_free, next_untold, forwards_turn, held_coming, held_leaving}
 use Rattle.dm_mirror.proofs.Turning.{NoneEnds, own_first, MayOwn, Nothing, Own, Turns, TurnsAt}
 use Rattle.dm_mirror.proofs.Follow.Updates.{updated_board_turn, updated_here_turn, updated_manager_turn, no_move_turn, updated_ended_turn}
@@ -77,11 +78,11 @@ named_is (d ∷ ds) p c e = elim (cases_Bool (pid_eq d.pid p)) [
   | inr apart ↦ named_is ds p c (sym (ap (λ (b : Bool). cond b (Some d) (child_named p ds)) apart) ∙ e)
 ]
 
--- the message that tells a child to move
-abbrev move_of : KernelState → Addr → ℕ → Message
-move_of k child to = record { id = machine.own_id k; to = child; sender = address_at 0; what = What.Migrate to }
+-- the message that tells a child to move, from a manager that has moved so often
+abbrev move_of : ℕ → KernelState → Addr → ℕ → Message
+move_of moves k child to = record { id = machine.own_id k; to = child; sender = address_at 0 moves; what = What.Migrate to }
 
-move_may : (b : Boot) (pt : Point) (l : Placed) (records all : AllRecords) (k : KernelState) (c : Asks b pt l records k) (p : Pid) (to : ℕ) (child : Addr) → child_named p l.manager.children ≡ Some child → MayOwn (asked_point pt p to) l all 0 (move_of k child to)
+move_may : (b : Boot) (pt : Point) (l : Placed) (records all : AllRecords) (k : KernelState) (c : Asks b pt l records k) (p : Pid) (to : ℕ) (child : Addr) → child_named p l.manager.children ≡ Some child → MayOwn (asked_point pt p to) l all 0 (move_of l.manager.moves k child to)
 move_may b pt l records all k c p to child found =
     let named : machine.own_id k ≡ id_of (pid_of 0 0) (pt.view.count 0) = λ i. record { from = pid_of (c.stands.here i) 0; n = c.counted i; answer = false } in
     let (n, number, place) = child_place pt.kernel pt.view pt.addresses l p child c.mirrors found in
@@ -95,17 +96,17 @@ move_may b pt l records all k c p to child found =
       bag = ap l.bag named ∙ next_free b 0 pt l c.run c.mirrors c.own;
       untold = ap pt.view.told named ∙ next_untold b 0 pt c.run;
       receiver = ap (λ (t : Bool). if t then option_map_or (λ c. pt.addresses (Child c)) (child_number pt.kernel child.pid) (unmoved 0) else pt.addresses (Receiver i)) (id_eq-same i) ∙ to_child;
-      sender = ap (λ (t : Bool). if t then unmoved 0 else pt.addresses (Sender i)) (id_eq-same i);
+      sender = ap (λ (t : Bool). if t then acting_place (asked_point pt p to).view manager else pt.addresses (Sender i)) (id_eq-same i) ∙ ap (place_after 0) (sym c.mirrors.places.manager_moves);
       about = refl;
       asker = λ e. refl;
       carried = λ e q f. absurd (false≢true e);
     }
 
 -- a server doesn't move, nor does what is no child
-asked_server : (b : Boot) (pt : Point) (l : Placed) (records : AllRecords) (k : KernelState) (c : Asks b pt l records k) (p : Pid) (to : ℕ) → (pid_eq p switchboard || pid_eq p manager) ≡ true → asks_move k p to ≡ told_to_move k p (moves_child l.manager.children p to (machine.own_id k))
+asked_server : (b : Boot) (pt : Point) (l : Placed) (records : AllRecords) (k : KernelState) (c : Asks b pt l records k) (p : Pid) (to : ℕ) → (pid_eq p switchboard || pid_eq p manager) ≡ true → asks_move k p to ≡ told_to_move k p (moves_child l.manager.moves l.manager.children p to (machine.own_id k))
     → Turns b 0 (Step.Migrate p to) (asks_move k p to) pt (asked_point pt p to) l records k
 asked_server b pt l records k c p to server turn =
-    asked_line b pt l records k c p to (Line.Pinned p) (turn ∙ ap (λ (t : Bool). told_to_move k p (if t then Err MoveError.Pinned else tells_to_move (machine.own_id k) to (child_named p l.manager.children))) server)
+    asked_line b pt l records k c p to (Line.Pinned p) (turn ∙ ap (λ (t : Bool). told_to_move k p (if t then Err MoveError.Pinned else tells_to_move l.manager.moves (machine.own_id k) to (child_named p l.manager.children))) server)
     (pinned (pid_eq p switchboard) (pid_eq p manager) server) refl
   where
     pinned : (s t : Bool) → (s || t) ≡ true → (if s then rule.Says (Line.Pinned p) ∷ [] else if t then rule.Says (Line.Pinned p) ∷ [] else migrates_child pt.addresses p (child_number pt.kernel p)) ≡ rule.Says (Line.Pinned p) ∷ []
@@ -113,19 +114,19 @@ asked_server b pt l records k c p to server turn =
     pinned false true e = refl
     pinned false false e = cc
 
-asked_other : (b : Boot) (pt : Point) (l : Placed) (records : AllRecords) (k : KernelState) (c : Asks b pt l records k) (p : Pid) (to : ℕ) (o : Option Addr) → child_named p l.manager.children ≡ o → asks_move k p to ≡ told_to_move k p (tells_to_move (machine.own_id k) to (child_named p l.manager.children))
+asked_other : (b : Boot) (pt : Point) (l : Placed) (records : AllRecords) (k : KernelState) (c : Asks b pt l records k) (p : Pid) (to : ℕ) (o : Option Addr) → child_named p l.manager.children ≡ o → asks_move k p to ≡ told_to_move k p (tells_to_move l.manager.moves (machine.own_id k) to (child_named p l.manager.children))
     → migrates pt p ≡ migrates_child pt.addresses p (child_number pt.kernel p) → Turns b 0 (Step.Migrate p to) (asks_move k p to) pt (asked_point pt p to) l records k
 asked_other b pt l records k c p to None found turn is =
-    asked_line b pt l records k c p to (Line.NoChild p) (turn ∙ ap (λ (o : Option Addr). told_to_move k p (tells_to_move (machine.own_id k) to o)) found)
+    asked_line b pt l records k c p to (Line.NoChild p) (turn ∙ ap (λ (o : Option Addr). told_to_move k p (tells_to_move l.manager.moves (machine.own_id k) to o)) found)
     (is ∙ ap (migrates_child pt.addresses p) (no_child pt.kernel pt.view pt.addresses l p c.mirrors found)) refl
 asked_other b pt l records k c p to (Some child) found turn is =
     let (n, number, place) = child_place pt.kernel pt.view pt.addresses l p child c.mirrors found in
     record {
       state = with_sent k;
       says = [];
-      routes = Own (move_of k child to) ∷ [];
+      routes = Own (move_of l.manager.moves k child to) ∷ [];
       late = Nothing;
-      turn = turn ∙ ap (λ (o : Option Addr). told_to_move k p (tells_to_move (machine.own_id k) to o)) found;
+      turn = turn ∙ ap (λ (o : Option Addr). told_to_move k p (tells_to_move l.manager.moves (machine.own_id k) to o)) found;
       outcome = ap Some (is ∙ ap (migrates_child pt.addresses p) number ∙ (λ i. rule.Owns MessageKind.Migrate ((sym (named_is l.manager.children p child found)) i) (place i).at ∷ []));
       next = asked_point pt p to;
       after = refl;
@@ -144,11 +145,11 @@ asked_other b pt l records k c p to (Some child) found turn is =
 
 pub asks_turn : (b : Boot) (pt : Point) (l : Placed) (records : AllRecords) (k : KernelState) (p : Pid) (to : ℕ) → Asks b pt l records k → Turns b 0 (Step.Migrate p to) (asks_move k p to) pt (moved pt (Line.Head (Step.Migrate p to)) pt.kernel) l records k
 asks_turn b pt l records k p to c =
-    let turn : asks_move k p to ≡ told_to_move k p (moves_child l.manager.children p to (machine.own_id k)) = ap (asks_manager k p to) c.stands.servers in
+    let turn : asks_move k p to ≡ told_to_move k p (moves_child l.manager.moves l.manager.children p to (machine.own_id k)) = ap (asks_manager k p to) c.stands.servers in
     elim (cases_Bool (pid_eq p switchboard || pid_eq p manager)) [
       | inl server ↦ asked_server b pt l records k c p to server turn
       | inr other ↦
-          asked_other b pt l records k c p to (child_named p l.manager.children) refl (turn ∙ ap (λ (t : Bool). told_to_move k p (if t then Err MoveError.Pinned else tells_to_move (machine.own_id k) to (child_named p l.manager.children))) other)
+          asked_other b pt l records k c p to (child_named p l.manager.children) refl (turn ∙ ap (λ (t : Bool). told_to_move k p (if t then Err MoveError.Pinned else tells_to_move l.manager.moves (machine.own_id k) to (child_named p l.manager.children))) other)
           (neither (pid_eq p switchboard) (pid_eq p manager) other)
     ]
   where

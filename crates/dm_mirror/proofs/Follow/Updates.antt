@@ -5,6 +5,7 @@ use Rattle.dm_mirror.proofs.Names.{Servers, handles, KernelState, with_here, pid
 use Rattle.dm_mirror.proofs.Names.{Spot, standing, Known, Here, Of, Told, rests_here, is_fixed, Run, Placed, Mirrors, mirrors_view, board_told, manager_told, updated_board_mirrors, updated_manager_mirrors, updated_mirrors}
 use Rattle.dm_mirror.proofs.Names.{updated_board_count, updated_count, updated_manager_count, about_of, told_of, KnownStands, servers_at, AllRecords, Wants, MessageKind, PlainMessage, Managing, Board, Addresses, told_ended, after_line}
 use Rattle.dm_mirror.proofs.Names.{updated_ended_mirrors, no_process, Wanted, is_server, Part, sort_of, ◌⊎◌, inl, inr, Moves, View, is_due_piece, pulls_piece, Asks, Comes, kernel_hears, process_told, is_alive, ◌||◌, Unknown, is_some}
+use Rattle.dm_procman.specs.Managing.{behind_in}
 use Rattle.dm_places.specs.PlacedStep.{with_process}
 use Rattle.dm_mirror.proofs.Recorded.{recorded}
 use Rattle.dm_mirror.proofs.Follow.Fronts.{front_still, is_process_of, plain_there, Fronts, at_front, eq_off, known_on, machine_process, rule_process, set_other, set_self, handled_point, turns_follow, handled_view}
@@ -259,7 +260,7 @@ updated_manager_turn b m pt l records k y c about to e =
     let home = at_home b m pt l records k y c (ap is_fixed to) (ap (λ (p : Pid). p.home) to) in
     let v : Servers = record { board = l.board; manager = l.manager } in
     let r = about.pid in
-    let n = count_by (places.is_behind r about.moves) l.manager.children + count_by (pending_is_behind r about.moves) l.manager.pending in
+    let n = behind_in r about.moves l.manager in
     let told = (c.own y.id y c.there (ap (λ (w : What). with_what y (plain_what w)) e)).told in
     let was : c.told ≡ told_of y = grind (arith, nat_tests, ap plain_what e) in
     let start = mirrors_view pt.kernel pt.view (begun pt m).view pt.addresses l refl c.mirrors in

@@ -214,7 +214,7 @@ asked s l kind i h p =
     (z, found)
 
 abbrev created_of : ℕ → Managing → ℕ → Pid → Pending → manage.Taken
-created_of here g n child r = manage.answers_over here (record (manage.settled g n) { children = g.children ++ at_home child ∷ [] }) r.answer 0 (control_link here (length g.children + 1) ∷ [])
+created_of here g n child r = manage.answers_over here (record (manage.settled g n) { children = g.children ++ at_home child ∷ [] }) r.answer 0 (control_link here g.moves (length g.children + 1) ∷ [])
 
 -- the request is taken off, and its answer has one byte
 abbrev settled_of : ℕ → Managing → ℕ → ℕ → Pending → manage.Taken
@@ -238,7 +238,7 @@ manager_row b m pt l k y (PlainWhat.Created child) ps c num off is fits goes =
     manager_by b m pt l k y (PlainWhat.Created child) t c num off is (ap (manage.takes m l.manager y.id.n) (created_what y.what child c.says) ∙ taken)
     (ap (one.takes_answer s.manager y.id.n (s.manager.children ++ child ∷ []) 0 (one.control_link (length s.manager.children + 1) ∷ [])) (numbered s l y.id.n h) ∙ ap (λ (g : Manager). (one.takes_answer g y.id.n (g.children ++ child ∷ []) 0 (one.control_link (length g.children + 1) ∷ [])) (option_map plain_pending (manage.pending_request y.id.n l.manager.pending))) (sym h.manager)
     ∙ sym (plain_created m l.manager y.id.n child (manage.pending_request y.id.n l.manager.pending) t taken))
-    (answers_plain m (record (manage.settled l.manager y.id.n) { children = l.manager.children ++ at_home child ∷ [] }) r.answer 0 (control_link m (length l.manager.children + 1) ∷ []))
+    (answers_plain m (record (manage.settled l.manager y.id.n) { children = l.manager.children ++ at_home child ∷ [] }) r.answer 0 (control_link m l.manager.moves (length l.manager.children + 1) ∷ []))
 manager_row b m pt l k y PlainWhat.NoRoom ps c num off is fits goes =
     let s = pt.kernel in
     let h = c.mirrors.plain in

@@ -6,7 +6,7 @@ use Rattle.dm_mirror.proofs.Names.{is_early, tells_onward, is_restart, kind_leav
 use Rattle.dm_mirror.proofs.Names.{ComesStand, KernelStands, LeavesStand, Carries, TokensStand, Wants, destination_of, eq_self, apart_is, inbox_is, ◌<◌, ◌||◌, [], IsSome, Chunk, Block, Nothing, IsNextPiece, block_of, chunk_of, coming}
 use Rattle.dm_mirror.proofs.Names.{by_pieces, takes_room, own_sort, Mirrors, FitsKernel, MayLeave, MayRestart, MadeStands, nat_tests, Asker, sort_of, List, Cargo, CanBeCarried, cargo_at, cargo_of, ask_for, IsIn, cases_Bool, inl, inr}
 use Rattle.dm_mirror.proofs.Names.{LeftCarries, is_due_piece, is_expected, pulls_piece, is_calloff, is_waited_from, ◌+◌}
-use Rattle.dm_migrate.specs.Way.{moved}
+use Rattle.dm_resident.specs.Residents.{moved}
 use Rattle.dm_mirror.proofs.May.Own.{OwnFront, has_taken, life_is}
 use Rattle.dm_mirror.proofs.Turning.{is_moving}
 use Rattle.dm_mirror.proofs.Recorded.{recorded}

@@ -289,8 +289,8 @@ late_lines q late m c x home out = grind (arith, nat_tests)
 pub late_pair : (q : Point) (late : Late) → (late_point q late).view.pair ≡ q.view.pair
 late_pair q late = grind (arith, nat_tests)
 
-pub own_gives_same : (s : OneKernel) (v u : View) (a : Addresses) (id : MsgId) (q : Pid) (k : MessageKind) → u.acting ≡ v.acting → own_given s u a id q (sort_of k) ≡ own_given s v a id q (sort_of k)
-own_gives_same s v u a id q k e = grind (arith, nat_tests)
+pub own_gives_same : (s : OneKernel) (v u : View) (a : Addresses) (id : MsgId) (q : Pid) (k : MessageKind) → u.acting ≡ v.acting → u.moves ≡ v.moves → own_given s u a id q (sort_of k) ≡ own_given s v a id q (sort_of k)
+own_gives_same s v u a id q k e f = grind (arith, nat_tests)
 
 -- a put, where the message is told to be about this
 abbrev put_about : Point → ℕ → ℕ → Message → About → Addresses → Point
@@ -301,7 +301,7 @@ put_about q m c x a places = record {
 }
 
 left_gives : (q : Point) (p : Pid) (x : Message) → own_given q.kernel (moved q (Line.Migration Stage.Left p) q.kernel).view q.addresses x.id x.to.pid (sort_of (kind_of x.what)) ≡ own_given q.kernel q.view q.addresses x.id x.to.pid (sort_of (kind_of x.what))
-left_gives q p x = own_gives_same q.kernel q.view (moved q (Line.Migration Stage.Left p) q.kernel).view q.addresses x.id x.to.pid (kind_of x.what) refl
+left_gives q p x = own_gives_same q.kernel q.view (moved q (Line.Migration Stage.Left p) q.kernel).view q.addresses x.id x.to.pid (kind_of x.what) refl refl
 
 left_put : (q : Point) (p : Pid) (m c : ℕ) (x : Message) → q.view.topic ≡ Of p → put_point (moved q (Line.Migration Stage.Left p) q.kernel) m c x ≡ moved (put_point q m c x) (Line.Migration Stage.Left p) q.kernel
 left_put q p m c x e = λ i. moved (put_about q m c x (sym e i) (given q.addresses (first_gives (q.view.told x.id) (left_gives q p x i)))) (Line.Migration Stage.Left p) q.kernel

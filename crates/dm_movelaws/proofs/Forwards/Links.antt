@@ -41,11 +41,11 @@ counts_promise b before between start pt d sent p q place valid comes forwards k
     let t = forwards_tell b before start d sent p q place.at valid comes forwards in
     let moves : t.moves ≡ place.moves = cc (sym t.known ∙ known) in
     let way : IsUnderWay sent.point.view t.update p q place = subst (λ (n : ℕ). IsUnderWay sent.point.view t.update p q (record { at = place.at; moves = n })) moves t.way in
-    let fit = subst (IsStep start.kernel.machines) (sym t.turn) (run.found.known_within (actor d) q (forwarded_some start.view (actor d) q place.at place.moves known)) in
+    let fit = subst (IsStep start.kernel.machines) (sym t.turn) (run.found.known_within (actor start.view d) q (forwarded_some start.view (actor start.view d) q place.at place.moves known)) in
     let first = before ++ d ∷ [] in
     let told : Leads b (first_point b) first sent.point = leads_append b before (d ∷ []) (first_point b) start sent.point comes (sent, fit, forwards.is, refl) in
     let all : Leads b (first_point b) (first ++ between) pt = leads_append b first between (first_point b) sent.point pt told goes in
-    let (server, made) = forwarded_made start.kernel start.view (actor d) q place.at place.moves run.based.known known in
+    let (server, made) = forwarded_made start.kernel start.view (actor start.view d) q place.at place.moves run.based.known known in
     let sane = run.based.phased.sane in
     let still = or_first (is_server q) (is_some (pt.kernel.processes q)) (made_on b (d ∷ between) start pt q sane.r sane.e (sent, fit, forwards.is, goes) sane.sound made) in
     let (trails, on) = trail_known b (first ++ between) pt valid all in

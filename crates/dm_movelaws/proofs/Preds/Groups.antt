@@ -172,8 +172,8 @@ group_preds n b pt d w e run machines h =
       asks = λ p m. (
           let x = Step.Migrate p m in
           let start = stood x (record { within = pairs.within; home = pairs.home }) in
-          by_migrates (Into n (begun pt x)) pt p (tail_into n (begun pt x) (Says (Line.Pinned p) ∷ []) start (tt, tt)) (tail_into n (begun pt x) (Says (Line.NoChild p) ∷ []) start (tt, tt))
-          (λ k off is. tail_into n (begun pt x) (Owns MessageKind.Migrate p (pt.addresses (Child k)).at ∷ []) start (tt, tt)));
+          by_migrates (Into n (begun pt x)) pt p (tail_into n (begun pt x) (Says Line.Away ∷ []) start (tt, tt)) (tail_into n (begun pt x) (Says (Line.NoChild p) ∷ []) start (tt, tt))
+          (λ a here knows. tail_into n (begun pt x) (Owns MessageKind.Migrate p a.at ∷ []) start (tt, tt)));
       calls = λ p m. (
           let x = Step.CallOff p m in
           let start = stood x (record { within = pairs.within; home = pairs.home }) in

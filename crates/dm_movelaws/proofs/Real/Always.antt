@@ -326,14 +326,11 @@ receivers b pt run h i t told = elim (cases_Bool (is_kernels i)) [
   | inr other ↦ h.receiver i t told other
 ]
 
-pub head_less : (n : ℕ) (d : Step) → IsStep n d → actor d < n
-head_less n d h = grind (arith, nat_tests)
-
 begins_real : (b : Boot) (pt : Point) (d : Step) → IsStep pt.kernel.machines d → Run b pt → RealAt pt → Reals pt (begun pt d)
 begins_real b pt d fit run h =
     let same : (i : MsgId) → (after_head pt.view d).told i ≡ pt.view.told i = told_by pt.view (Line.Head d) refl in
     record {
-      within = line_within pt.kernel.machines pt.view (Line.Head d) (head_less pt.kernel.machines d fit) (record { known = λ m q some. run.found.known_within m q some; acting = run.kept.acting });
+      within = line_within pt.kernel.machines pt.view (Line.Head d) fit (record { known = λ m q some. run.found.known_within m q some; acting = run.kept.acting });
       fits = run.based.fits;
       order = run.based.pending;
       rises = rises_same pt.kernel;

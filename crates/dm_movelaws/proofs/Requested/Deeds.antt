@@ -226,6 +226,6 @@ outcome_deed b o d ps = by_outcome (Deed o) b o d ps (record {
   hears = λ m i is xs box none e. hears_deed b o m i is (o.view.told i) xs box refl e;
   ticks = λ m xs net. Mild (net_parts_mild xs net);
   delivers = λ a c k xs net. Mild (net_parts_mild xs net);
-  asks = λ p m. by_migrates (Deed o (Step.Migrate p m)) o p (Mild (refl, tt)) (Mild (refl, tt)) (λ n off is. Directs p m (o.addresses (Child n)).at refl refl);
+  asks = λ p m. by_migrates (Deed o (Step.Migrate p m)) o p (Mild (refl, tt)) (Mild (refl, tt)) (λ a here knows. Directs p m a.at refl refl);
   calls = λ p m. by_calls_off (Deed o (Step.CallOff p m)) o m p (Mild (refl, tt)) (λ from is come. Calls m p from refl is refl);
 })

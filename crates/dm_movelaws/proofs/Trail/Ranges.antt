@@ -8,7 +8,6 @@ use Rattle.dm_onekernel.specs.Step as kernel
 use Rattle.dm_rule.proofs.Trails.Along.{AllFit}
 use Rattle.dm_movelaws.proofs.At.RestOnly.{is_dead}
 use Rattle.dm_movelaws.proofs.Leading.{AllLines, parts_say, outcome_says}
-use Rattle.dm_movelaws.proofs.Real.Always.{head_less}
 
 -- what machines know is known by machines that there are, and so are those of trails
 pub record Ranged (n : ℕ) (pt : Point) (t : Trails) : Type 0 where
@@ -126,7 +125,7 @@ lines_ranged n (l ∷ ls) x y is fits heads on h =
 -- a group begins with a head, and has no other
 group_heads : (b : Boot) (n : ℕ) (pt : Point) (d : Step) (w : Spelled) → IsStep n d → group_of b pt d ≡ Some w → AllLines (HeadIn n) w.lines
 group_heads b n pt d w fit = by_group (λ v. AllLines (HeadIn n) v.lines) b pt d w (λ ps rest is said. (
-  head_less n d fit,
+  fit,
   parts_say (HeadIn n) (λ x y i k q. tt) (λ x y k l. tt) ps (moved pt (Line.Head d) pt.kernel) rest (outcome_says (HeadIn n) quiet_in net_in b pt d ps is) said,
 ))
   where

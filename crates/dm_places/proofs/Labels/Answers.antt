@@ -90,7 +90,7 @@ asked_row s t v a l id m k (PlainWhat.Move machine) is needs hm says h =
     let eq : kernels.with_note (service.without_message s id) k.to on ≡ t = cc in
     let b = λ (p : Pid). given a (gets (AskedBy p) pl ∷ []) in
     let p = m.to.pid in
-    let done = noted_mirrors (service.without_message s id) v a (b p) (without_message l id) p w (λ q. record { slot = λ i. refl; owner = refl }) (λ i. record { receiver = refl; sender = refl; enclosed = λ j. refl }) (λ n. refl) (λ n. refl) (λ n. refl)
+    let done = noted_mirrors (service.without_message s id) v a (b p) (without_message l id) p w (λ q. record { slot = λ i. refl; owner = refl }) (λ i. record { receiver = refl; sender = refl; enclosed = λ j. refl }) (λ n. refl) (λ n. refl) (λ n. refl) refl
     (λ q apart. ap (λ (c : Bool). if c then pl else a (AskedBy q)) apart) (ap (λ (c : Bool). if c then pl else a (AskedBy p)) (pid_eq-same p) ∙ hm.sender) (out_mirrors s v a l id h) in
     search (arith, mirrors_as)
 asked_row s t v a l id m k u is needs hm says h = cc

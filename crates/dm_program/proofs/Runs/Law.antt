@@ -40,7 +40,7 @@ hides b es pt w valid leads stands =
     let machines : pt.kernel.machines ≡ length b.machines = machines_stay b es pt valid leads in
     end_hides (length b.machines) w (some_machines b valid) (λ m l. (stands.0.2.nodes m (omega (arith, l, machines))).lawful)
 
-ends_may : (b : Boot) (es : List Step) (gs : List (List Line)) (w : WorldState) → IsValid b → HasRan b es gs w → EndsMay (length b.machines) w
+ends_may : (b : Boot) (es : List Step) (gs : List (List Line)) (w : WorldState) → IsValid b → HasRan b es gs w → EndsMay b w
 ends_may b es gs w valid h = record { may = end_may b es w h.point valid h.ran.leads h.ran.stands; whole = hides b es h.point w valid h.ran.leads h.ran.stands }
 
 pub runs_go : RunsGo

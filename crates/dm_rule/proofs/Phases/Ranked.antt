@@ -206,7 +206,7 @@ line_lists v l h =
           | inr off ↦ subst (λ k. 1 ≤ k) (ap (λ (c : Bool). times i (if c then [] else v.held m q)) off) there
         ];
       }
-      | Line.Pinned p ↦ λ h_. lists_same v v refl refl
+      | Line.Away ↦ λ h_. lists_same v v refl refl
       | _ ↦ λ h_. absurd h_
     ]) h
 

@@ -1,7 +1,7 @@
 -- Whom addresses are of is a kernel or a server of a machine that there is, or a process that its home knows.
 use Rattle.dm_rulelaws.proofs.Names.{◌≡◌, ◌⊎◌, ℕ, zero, suc, ◌<◌, ◌==◌, ◌||◌, Bool, true, false, is_some, nat_lt, List, [], ◌∷◌, refl, ap, ◌∙◌, sym, subst, inl, inr, arith, if◌then◌else◌, slice_get, Option, None, Some, nat_tests, Pid}
 use Rattle.dm_rulelaws.proofs.Names.{pid_eq, PlainLink, link_at, MsgId, PlainMessage, PlainWhat, switchboard, manager, PlainProcess, Life, Pending, Made, alive-is, View, Holder, Slot, Owner, Receiver, Sender, Enclosed, Child, Name, Answer}
-use Rattle.dm_rulelaws.proofs.Names.{link_target, to_of, sender_of, names, Point, Each, has_bytes, is_server, LinkFits, WhatFits, awaits, is_fixed, or_first, MoveNote, AskedBy, asker_in, option_and_then, owner_in, Lives}
+use Rattle.dm_rulelaws.proofs.Names.{link_target, to_of, sender_of, names, Point, Each, has_bytes, is_server, LinkFits, WhatFits, awaits, is_fixed, or_first, MoveNote, AskedBy, ToBoard, asker_in, option_and_then, owner_in, Lives}
 use Rattle.dm_onekernel.specs.Manager as manage
 use Rattle.dm_onekernel.specs.Step as kernel
 use Rattle.dm_rulelaws.proofs.Fits.Rises.{both, slot_link}
@@ -113,6 +113,7 @@ named_by pt n g q h e = by g e
     by (Child k) f = child_real pt n k q h f
     by (Name k) f = search (arith, pt.view, link_real, each_get, pt.kernel.processes, pt.kernel.switchboard.names)
     by (AskedBy p) f = asker_real pt n p q (pt.kernel.notes p) h some refl f
+    by ToBoard f = (let e_ : switchboard ≡ q = cc in subst (IsReal n pt.kernel.processes pt.view) e_ (server_real n pt.kernel.processes pt.view switchboard some refl))
     by (Answer k) f = answer_real pt n k q (manage.pending_numbered k pt.kernel.manager.pending) h some refl f
 
 pub named_real : (pt : Point) (n : ℕ) (g : Holder) (q : Pid) → Core n pt → names pt.kernel g ≡ Some q → IsReal n pt.kernel.processes pt.view q

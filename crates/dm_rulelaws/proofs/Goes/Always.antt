@@ -97,10 +97,10 @@ CalmFor pt _ = ⊤
 -- a group, whether it receives, and its kernels' own messages
 pub record Group (b : Boot) (pt : Point) (d : Step) : Type 0 where
   pub goes : Goes (CalmFor pt d) b pt d
-  pub shape : Shape (view.actor d) (moved pt (Line.Head d) pt.kernel) goes.parts
+  pub shape : Shape (view.actor pt.view d) (moved pt (Line.Head d) pt.kernel) goes.parts
   pub owns : OwnsFit (moved pt (Line.Head d) pt.kernel).view goes.parts
 
-group_by : (b : Boot) (pt : Point) (d : Step) → Can (CalmFor pt d) (view.actor d) (moved pt (Line.Head d) pt.kernel) (rule.outcome b pt d) → Group b pt d
+group_by : (b : Boot) (pt : Point) (d : Step) → Can (CalmFor pt d) (view.actor pt.view d) (moved pt (Line.Head d) pt.kernel) (rule.outcome b pt d) → Group b pt d
 group_by b pt d c = record { goes = goes (CalmFor pt d) b pt d c.ps c.is c.does; shape = c.shape; owns = c.owns }
 
 pub group_on : (b : Boot) (pt : Point) (d : Step) → Run b pt → OwnTold pt → Group b pt d
