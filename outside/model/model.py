@@ -163,9 +163,7 @@ def do_look(words, write):
     write(look(world, directives, most, last))
 
 
-COMMANDS = {"run": do_run, "check": do_check, "explain": do_explain, "drill": do_drill, "count": do_count}
-if standing.COMMANDS:
-    COMMANDS |= {"look": do_look}
+COMMANDS = {"run": do_run, "check": do_check, "explain": do_explain, "drill": do_drill, "count": do_count, "look": do_look}
 
 
 def run(words, write):

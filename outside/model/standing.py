@@ -11,4 +11,4 @@ WITH = [word for word in os.environ.get("MODEL_WITH", "").split(",") if word]
 assert all(word in COMING for word in WITH), f"MODEL_WITH names {WITH}; there is {COMING}"
 
 SERVERS_MOVE = "servers" in WITH  # the switchboard and the process manager move
-COMMANDS = "commands" in WITH  # look, labels alone
+COMMANDS = "commands" in WITH  # labels alone

@@ -1,6 +1,6 @@
 -- What is said in some terms is said in others to which they are carried.
 use Rattle.dm_commands.proofs.Names.{◌≡◌, inl, inr, ℕ, Bool, true, false, List, length, Option, Some, None, Boot, Directive, IsValid, All, IsFor, World, Verdict, good_verdict, Drill as TheDrill, boot_of_machines, directives_of_drill, IsWithin}
-use Rattle.dm_commands.proofs.Names.{Status, Done, Usage, ReadFault, NoMemory, WriteFault, BootRefused, ScheduleRefused, TooLong, Worn, TraceRefused, Request, Chart, Check, Count, Explain, Judge, Run}
+use Rattle.dm_commands.proofs.Names.{Status, Done, Usage, ReadFault, NoMemory, WriteFault, BootRefused, ScheduleRefused, TooLong, Worn, TraceRefused, Request, Chart, Check, Count, Explain, Judge, Run, Look}
 use Rattle.dm_draw.specs.declared.drill.OwnDrill.{OwnDrill as TheOwnDrill}
 use Rattle.dm_draw.specs.declared.drill.Shows.{Shows}
 use Rattle.dm_draw.specs.declared.drill.Shows.TheVariants as shows
@@ -15,6 +15,9 @@ use Rattle.dm_commands.specs.Checks.{CheckMeets, CheckSaying, CheckSays, IsGoodT
 use Rattle.dm_commands.specs.Commands.{CommandMeets, Terms}
 use Rattle.dm_commands.specs.Drills.{CountSays, CountedSays, report_of}
 use Rattle.dm_commands.proofs.OwnDrilling.{own_for}
+use Rattle.dm_commands.proofs.Looking.{look_said}
+use Rattle.dm_look.proofs.Carried.{Sees}
+use Rattle.dm_commands.specs.Looks.{LookSays}
 use Rattle.dm_commands.specs.OwnDrills.{OwnMeets, OwnSays, ShownSays, directives_for, own_report}
 use Rattle.dm_check.specs.declared.refusal.WasDue.{WasDue}
 use Rattle.dm_commands.specs.Judges.{JudgeMeets, JudgeTells, TellsJudged, TellsTrace}
@@ -177,6 +180,7 @@ judge_met m n boot trace a world s c h = record {
 -- terms are carried to others
 pub record CarriesTerms (t u : Terms) : Type 0 where
   pub runs : (b : Boot) (ds : List Directive) → IsValid b → All (IsFor (length b.machines)) ds → Carries t.run u.run b ds
+  pub looks : (b : Boot) (ds : List Directive) → IsValid b → All (IsFor (length b.machines)) ds → Sees t.run u.run t.holds u.holds b ds
   pub drills : (d : TheDrill) → IsWithin d → Carries t.run u.run (boot_of_machines d.machines) (directives_of_drill d)
   pub traces : (b : Boot) → IsValid b → CarriesTraces t.trace u.trace b
 
@@ -192,6 +196,11 @@ carried t u (Some (Explain boot schedule)) a world s c h = h
 carried t u (Some (Judge boot trace)) a world s c h = judge_met t.trace u.trace boot trace a world s c.traces h
 carried t u (Some (Count boot schedule)) a world s c h =
     run_met (CountSays t.run) (CountSays u.run) boot schedule a world s (λ b ds before after valid each says. counted_said t.run u.run false report.OfRun b ds before after world s (c.runs b ds valid each) says) h
+carried t u (Some (Look boot schedule groups)) a world s c h = record {
+  as_run = run_met (LookSays t.run t.holds groups) (LookSays u.run u.holds groups) boot schedule a world s
+      (λ b ds before after valid each says. look_said t.run u.run t.holds u.holds groups b ds before after world s (c.runs b ds valid each) (c.looks b ds valid each) says) h.as_run;
+  no_world = h.no_world;
+}
 carried t u (Some (Drill d)) a world s c h = record {
   within = h.within;
   meets = record { says = counted_said t.run u.run d.trace (report_of d) (boot_of_machines d.machines) (directives_of_drill d) _ _ world s (c.drills d h.within) h.meets.says; sink = h.meets.sink };

@@ -11,6 +11,7 @@ pub mod Drills
 pub mod ExplainOutcomes
 pub mod Judging
 pub mod OwnDrilling
+pub mod Looking
 pub mod Obeying
 pub mod Silent
 pub mod Carrying

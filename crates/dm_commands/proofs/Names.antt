@@ -47,7 +47,7 @@ pub use Rattle.dm_drill.proofs.Going.{nothing_drilled}
 pub use Rattle.dm_drill.specs.Drilled.{Ended}
 pub use Rattle.dm_words.specs.DrillWords.{IsWithin}
 pub use Rattle.dm_words.specs.Refused.{status_of_no}
-pub use Rattle.dm_words.specs.Request.{Chart, Check, Count, Explain, Judge, Request, Run}
+pub use Rattle.dm_words.specs.Request.{Chart, Check, Count, Explain, Judge, Request, Run, Look}
 pub use Rattle.dm_words.specs.Words.{IsInRange, request_of, request_said}
 pub use Rattle.dm_words.specs.declared.words.Request.{Request as TheRequest}
 pub use Rattle.dm_words.specs.declared.words.WordsError.{WordsError}

@@ -1,6 +1,6 @@
 -- What the program promises, whatever its words ask for.
 use Rattle.dm_commands.proofs.Names.{◌≡◌, inl, inr, ℕ, List, refl, ap, sym, subst, ◌∙◌, Option, Some, None, TheNoMemory, Boot, Directive, World, Input, Status, Done, Usage, ReadFault, NoMemory, WriteFault, NoFiles, NoTrace, NoInputs, NoBoot, Drill as TheDrill}
-use Rattle.dm_commands.proofs.Names.{Request, Chart, Check, Count, Explain, Judge, Run, WordsError, status_of_no}
+use Rattle.dm_commands.proofs.Names.{Request, Chart, Check, Count, Explain, Judge, Run, WordsError, status_of_no, Look}
 use Rattle.dm_words.specs.Request.{Drill, OwnDrill}
 use Rattle.dm_words.specs.declared.words.WordsError.TheVariants as why
 use Rattle.dm_ending.specs.declared.status.Input.TheVariants as input
@@ -15,6 +15,7 @@ use Rattle.dm_commands.specs.Checks.{CheckMeets, CheckSaying, CheckSays}
 use Rattle.dm_commands.specs.Commands.{CommandMeets, RefusesWords, Terms, named_in}
 use Rattle.dm_commands.specs.Drills.{CountSays, DrillMeets, DrillSaying, DrilledSays, SaysDrill}
 use Rattle.dm_commands.specs.Explains.{ExplainMeets}
+use Rattle.dm_commands.specs.Looks.{LookSays}
 use Rattle.dm_commands.specs.Meets.{MeetsOutside, MeetsShelf, MeetsSink}
 use Rattle.dm_commands.specs.OwnDrills.{OwnSays}
 use Rattle.dm_commands.specs.Outside.{Around, SinkAround, Untouched}
@@ -57,6 +58,10 @@ lacks_meets t (Some (Judge boot trace)) a world lack quiet fits h nothing =
     (unread (Both boot input.Trace trace) a.shelf (NoMemory lack) h.unread (asks_nothing (Both boot input.Trace trace) a.shelf h.unread nothing) (no_read lack)) h.unwritten h.no_world
 lacks_meets t (Some (Count boot schedule)) a world lack quiet fits h nothing =
     running.never_meets (CountSays t.run) boot schedule a world (NoMemory lack) tt (unread (Both boot input.Schedule schedule) a.shelf (NoMemory lack) h.unread (asks_nothing (Both boot input.Schedule schedule) a.shelf h.unread nothing) (no_read lack)) h.unwritten h.no_world
+lacks_meets t (Some (Look boot schedule groups)) a world lack quiet fits h nothing = record {
+  as_run = running.never_meets (LookSays t.run t.holds groups) boot schedule a world (NoMemory lack) tt (unread (Both boot input.Schedule schedule) a.shelf (NoMemory lack) h.unread (asks_nothing (Both boot input.Schedule schedule) a.shelf h.unread nothing) (no_read lack)) h.unwritten h.no_world;
+  no_world = h.no_world;
+}
 lacks_meets t (Some (Drill d)) a world lack quiet fits h nothing = record {
   within = fits;
   meets = record {
@@ -112,6 +117,7 @@ command_met t (Some (Chart boot schedule)) a world s h = h.as_run.met
 command_met t (Some (Explain boot schedule)) a world s h = h.met
 command_met t (Some (Judge boot trace)) a world s h = h.met
 command_met t (Some (Count boot schedule)) a world s h = h.met
+command_met t (Some (Look boot schedule groups)) a world s h = h.as_run.met
 command_met t (Some (Drill d)) a world s h = record { shelf = h.shelf; sink = h.meets.sink }
 command_met t (Some (OwnDrill boot d)) a world s h = h.met
 

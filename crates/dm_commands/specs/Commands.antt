@@ -4,12 +4,13 @@ use Rattle.std.specs.declared.option.Option.{Option}
 use Rattle.std.specs.declared.option.Option.TheVariants.{None, Some}
 use Rattle.dm_world.specs.declared.world.World.{World}
 use Rattle.dm_run.specs.Notion.{Notion}
+use Rattle.dm_look.specs.Looked.{Holding}
 use Rattle.dm_ending.specs.declared.status.Input.TheVariants as input
 use Rattle.dm_ending.specs.declared.status.Status.{Status}
 use Rattle.dm_ending.specs.declared.status.Status.TheVariants.{Usage}
 use Rattle.dm_ending.specs.Status.{IsWant}
 use Rattle.dm_words.specs.DrillWords.{IsWithin}
-use Rattle.dm_words.specs.Request.{Request, Chart, Check, Count, Drill, Explain, Judge, OwnDrill, Run}
+use Rattle.dm_words.specs.Request.{Request, Chart, Check, Count, Drill, Explain, Judge, OwnDrill, Run, Look}
 use Rattle.dm_draw.specs.declared.drill.Drill.{Drill as TheDrill}
 use Rattle.dm_commands.specs.Asked.{Alone, Both, Named, Nothing, perhaps_both}
 use Rattle.dm_commands.specs.Charts.{ChartMeets, ChartSays}
@@ -17,6 +18,7 @@ use Rattle.dm_commands.specs.Checks.{CheckMeets, CheckSays, TraceMeans}
 use Rattle.dm_commands.specs.Drills.{CountSays, DrillMeets, DrilledSays}
 use Rattle.dm_commands.specs.Explains.{ExplainMeets}
 use Rattle.dm_commands.specs.Judges.{JudgeMeets}
+use Rattle.dm_commands.specs.Looks.{LookMeets, LookSays}
 use Rattle.dm_commands.specs.OwnDrills.{OwnMeets, OwnSays}
 use Rattle.dm_commands.specs.Meets.{MeetsShelf}
 use Rattle.dm_commands.specs.Outside.{Around, Untouched}
@@ -25,6 +27,8 @@ use Rattle.dm_commands.specs.Runs.{RunMeets, RunSays}
 -- what is said of runs and of traces: by the machines, or by their rule
 pub record Terms : Type 1 where
   pub run : Notion
+  -- what is in the messages, where a run has come
+  pub holds : Holding run
   pub trace : TraceMeans
 
 -- the words ask for nothing: they are refused, unless memory lacks
@@ -47,6 +51,7 @@ CommandMeets t (Some (Chart boot schedule)) a world s = ChartMeets (ChartSays t.
 CommandMeets t (Some (Explain boot schedule)) a world s = ExplainMeets boot schedule a world s
 CommandMeets t (Some (Judge boot trace)) a world s = JudgeMeets t.trace boot trace a world s
 CommandMeets t (Some (Count boot schedule)) a world s = RunMeets (CountSays t.run) boot schedule a world s
+CommandMeets t (Some (Look boot schedule groups)) a world s = LookMeets (LookSays t.run t.holds groups) boot schedule a world s
 CommandMeets t (Some (Drill drill)) a world s = Drills t.run drill a world s
 CommandMeets t (Some (OwnDrill boot drill)) a world s = OwnMeets (OwnSays t.run drill) boot drill a world s
 
@@ -59,5 +64,6 @@ named_in (Some (Chart boot schedule)) = Both boot input.Schedule schedule
 named_in (Some (Explain boot schedule)) = perhaps_both boot schedule
 named_in (Some (Judge boot trace)) = Both boot input.Trace trace
 named_in (Some (Count boot schedule)) = Both boot input.Schedule schedule
+named_in (Some (Look boot schedule groups)) = Both boot input.Schedule schedule
 named_in (Some (Drill drill)) = Nothing
 named_in (Some (OwnDrill boot drill)) = Alone input.Boot boot

@@ -8,6 +8,7 @@ pub mod Checks
 pub mod Drills
 pub mod OwnDrills
 pub mod Charts
+pub mod Looks
 pub mod Explains
 pub mod Judges
 pub mod Commands

@@ -54,8 +54,8 @@ fn chart<K: Sink>(alloc: Global, inputs: Inputs, out: &mut K) -> Status
     }
 }
 
-/// How the program ends that wrote a picture: so, unless the sink failed.
-fn ended(wrote: Result<(), Failed>, otherwise: Status) -> Status
+/// How the program ends that wrote a picture, or what is seen: so, unless the sink failed.
+pub(crate) fn ended(wrote: Result<(), Failed>, otherwise: Status) -> Status
     ensures { result ≡ unless_failed wrote otherwise }
 {
     match wrote {

@@ -12,6 +12,7 @@ use crate::count::count_files;
 use crate::drill::drill;
 use crate::explain::explain_files;
 use crate::judge::judge_files;
+use crate::look::look_files;
 use crate::own_drill::drill_file;
 use crate::run::run_files;
 use dm_ending::status::Status;
@@ -48,6 +49,13 @@ pub fn do_words<F: Shelf, K: Sink>(
         Ok(Request::Count { boot, schedule }) => {
             count_files(alloc, boot, schedule, shelf, out, world)
         }
+        Ok(
+            Request::Look {
+                boot,
+                schedule,
+                groups,
+            },
+        ) => look_files(alloc, boot, schedule, groups, shelf, out),
         Ok(Request::Drill(drawn)) => drill(alloc, &drawn, out, world),
         Ok(Request::OwnDrill { boot, drill: drawn }) => {
             drill_file(alloc, boot, &drawn, shelf, out, world)

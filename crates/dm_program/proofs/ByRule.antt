@@ -13,6 +13,7 @@ use Rattle.dm_commands.specs.Outside.{Around, Untouched}
 use Rattle.dm_commands.specs.Says.{of_world}
 use Rattle.dm_program.proofs.Deciding.{decided}
 use Rattle.dm_program.proofs.Runs.ByRule.{carries}
+use Rattle.dm_program.proofs.Runs.Looks.{sees}
 use Rattle.dm_program.proofs.Traces.{carries_traces}
 use Rattle.dm_program.specs.Program.{ProgramMeets}
 use Rattle.dm_program.specs.Rule.{of_rule}
@@ -25,6 +26,7 @@ drill_for d within =
 by_rule : CarriesTerms of_world of_rule
 by_rule = record {
   runs = carries;
+  looks = sees;
   drills = λ d within. carries (boot_of_machines d.machines) (directives_of_drill d) (boot_valid d.machines within.least within.most) (drill_for d within);
   traces = carries_traces;
 }

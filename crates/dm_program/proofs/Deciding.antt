@@ -1,6 +1,6 @@
 -- Where no read and no write fails and memory is there, the files decide what a command comes to.
 use Rattle.dm_commands.proofs.Names.{◌≡◌, ◌⊎◌, inl, inr, ℕ, Bool, true, false, List, refl, ap, ap₂, sym, subst, ◌∙◌, Option, Some, None, Boot, Directive, RoseOrFull, appended, Verdict, good_verdict, HasTrace, NoFiles, NoTrace, AcceptsFiles, Drill as TheDrill}
-use Rattle.dm_commands.proofs.Names.{BlamesSink, IsWant, Input, Status, Done, Usage, ReadFault, NoMemory, WriteFault, BootRefused, ScheduleRefused, TooLong, Worn, TraceRefused, Request, Chart, Check, Count, Explain, Judge, Run, boot_of_machines, directives_of_drill}
+use Rattle.dm_commands.proofs.Names.{BlamesSink, IsWant, Input, Status, Done, Usage, ReadFault, NoMemory, WriteFault, BootRefused, ScheduleRefused, TooLong, Worn, TraceRefused, Request, Chart, Check, Count, Explain, Judge, Run, boot_of_machines, directives_of_drill, Look}
 use Rattle.dm_words.specs.Request.{Drill, OwnDrill}
 use Rattle.dm_draw.specs.declared.drill.OwnDrill.{OwnDrill as TheOwnDrill}
 use Rattle.dm_draw.specs.declared.drill.Shows.{Shows}
@@ -23,6 +23,7 @@ use Rattle.dm_commands.specs.OwnDrills.{RunOwnSays, ScheduleSays, SaysOwn, Shown
 use Rattle.dm_commands.specs.Outside.{Around, Outside, outside}
 use Rattle.dm_commands.specs.Runs.{RunSaying, RunSays, SaysRun}
 use Rattle.dm_world.specs.declared.world.World.{World}
+use Rattle.dm_program.proofs.LookDecided.{look_decided}
 use Rattle.dm_program.proofs.Runs.Endings.{wears_after, worn_same}
 use Rattle.dm_program.specs.Decided.{Accepts, CheckIsDecided, DrillIsDecided, Finds, GivesGood, GivesRefused, IsDecided, OwnIsDecided, OwnRunIsDecided, RunIsDecided}
 use Rattle.dm_program.specs.Printed.{Lasts, Wears, by_rule}
@@ -256,6 +257,7 @@ decided (Some (Chart boot schedule)) a world s h = run_decided (ChartSays by_rul
 decided (Some (Explain boot schedule)) a world s h = tt
 decided (Some (Judge boot trace)) a world s h = tt
 decided (Some (Count boot schedule)) a world s h = run_decided (CountSays by_rule) boot schedule (outside a world) s (λ b ds. counted_tells false report.OfRun b ds _ _ world) h.says h.met.sink.blames
+decided (Some (Look boot schedule groups)) a world s h = look_decided groups boot schedule (outside a world) s h.as_run.says h.as_run.met.sink.blames
 decided (Some (Drill d)) a world s h =
     let b = boot_of_machines d.machines in
     let ds = directives_of_drill d in

@@ -1,5 +1,6 @@
 pub mod Runs
 mod Traces
+mod LookDecided
 mod Deciding
 mod ByRule
 mod NoWords

@@ -10,3 +10,4 @@ pub mod Decisions
 pub mod Endings
 pub mod Law
 pub mod ByRule
+pub mod Looks

@@ -1,9 +1,10 @@
 -- What each command comes to, whoever asks: where no read and no write fails and memory is there, it is decided by the files.
-use Rattle.std.specs.Prelude.{◌≡◌, ⊤, ℕ, ◌⊎◌, Bool, List}
+use Rattle.std.specs.Prelude.{◌≡◌, ◌<◌, ⊤, ℕ, ◌⊎◌, Bool, List, length}
 use Rattle.std.specs.declared.option.Option.{Option}
 use Rattle.std.specs.declared.option.Option.TheVariants.{None, Some}
 use Rattle.dm_onekernel.specs.declared.boot.Boot.{Boot}
 use Rattle.dm_schedule.specs.declared.Directive.{Directive}
+use Rattle.dm_line.specs.declared.line.Line.{Line}
 use Rattle.dm_outside.specs.Outside.{appended}
 use Rattle.dm_draw.specs.Boot.{boot_of_machines}
 use Rattle.dm_draw.specs.declared.drill.Drill.{Drill as TheDrill}
@@ -13,7 +14,7 @@ use Rattle.dm_draw.specs.declared.drill.Shows.TheVariants as shows
 use Rattle.dm_ending.specs.declared.status.Status.{Status}
 use Rattle.dm_ending.specs.declared.status.Status.TheVariants.{Done, TraceRefused, Worn}
 use Rattle.dm_ending.specs.Status.{IsWant}
-use Rattle.dm_words.specs.Request.{Request, Chart, Check, Count, Drill, Explain, Judge, OwnDrill, Run}
+use Rattle.dm_words.specs.Request.{Request, Chart, Check, Count, Drill, Explain, Judge, OwnDrill, Run, Look}
 use Rattle.dm_check.specs.Good.{good_verdict}
 use Rattle.dm_checklaws.specs.Verdict.{verdict}
 use Rattle.dm_commands.specs.Checks.{HasTrace, RefusesTrace, good_line}
@@ -21,7 +22,7 @@ use Rattle.dm_commands.specs.Drills.{directives_of_drill}
 use Rattle.dm_commands.specs.Inputs.{AcceptsFiles, SaysBoot}
 use Rattle.dm_commands.specs.OwnDrills.{directives_for}
 use Rattle.dm_commands.specs.Outside.{NeverFails, NeverReadsBadly, Outside}
-use Rattle.dm_program.specs.Printed.{Lasts, Wears}
+use Rattle.dm_program.specs.Printed.{Lasts, Wears, WearsAfter}
 use Rattle.dm_program.specs.Rule.{traced_by_rule}
 
 -- directives that last come to their end, unless memory lacks
@@ -86,6 +87,19 @@ OwnIsDecided shows.Summary boot d o s = OwnRunIsDecided boot d o s
 OwnIsDecided shows.Groups boot d o s = OwnRunIsDecided boot d o s
 OwnIsDecided shows.Directives boot d o s = (files : List ℕ → Option (List ℕ)) (b : Boot) → o.files ≡ Some files → SaysBoot (Some files) boot b → NeverFails o → (s ≡ Done) ⊎ IsWant s
 
+-- fewer groups than so many lead to a worn pair
+pub record WearsEarly (b : Boot) (ds : List Directive) (most from to : ℕ) : Type 0 where
+  pub groups : List (List Line)
+  pub worn : WearsAfter b ds groups from to
+  pub early : length groups < most
+
+-- so it is with a look behind so many groups: where none is worn before, it comes to its end
+pub record LookIsDecided (most : ℕ) (boot schedule : List ℕ) (o : Outside) (s : Status) : Type 0 where
+  pub completes : (files : List ℕ → Option (List ℕ)) (b : Boot) (ds : List Directive) → o.files ≡ Some files → AcceptsFiles (Some files) boot schedule b ds
+      → ((from to : ℕ) → WearsEarly b ds most from to → ⊥) → NeverFails o → (s ≡ Done) ⊎ IsWant s
+  pub wears : (files : List ℕ → Option (List ℕ)) (b : Boot) (ds : List Directive) (from to : ℕ) → o.files ≡ Some files → AcceptsFiles (Some files) boot schedule b ds
+      → WearsEarly b ds most from to → NeverFails o → (s ≡ Worn from to) ⊎ IsWant s
+
 -- a row a command: what `explain` comes to is among what it promises
 abbrev pub IsDecided : Option Request → Outside → Status → Type 0
 IsDecided None o s = ⊤
@@ -95,5 +109,6 @@ IsDecided (Some (Chart boot schedule)) o s = RunIsDecided boot schedule o s
 IsDecided (Some (Explain boot schedule)) o s = ⊤
 IsDecided (Some (Judge boot trace)) o s = ⊤
 IsDecided (Some (Count boot schedule)) o s = RunIsDecided boot schedule o s
+IsDecided (Some (Look boot schedule groups)) o s = LookIsDecided groups boot schedule o s
 IsDecided (Some (Drill d)) o s = DrillIsDecided d o s
 IsDecided (Some (OwnDrill boot d)) o s = OwnIsDecided d.shows boot d o s

@@ -4,6 +4,8 @@ use Rattle.std.specs.declared.option.Option.TheVariants.{Some}
 use Rattle.dm_checklaws.specs.DueStands.{due_by_rule}
 use Rattle.dm_checklaws.specs.Good.{IsTrace}
 use Rattle.dm_checklaws.specs.Verdict.{verdict}
+use Rattle.dm_look.specs.Looked.{Holding}
+use Rattle.dm_looklaws.specs.Letters.{HoldsLetters}
 use Rattle.dm_commands.specs.Checks.{TraceMeans}
 use Rattle.dm_commands.specs.Commands.{Terms}
 use Rattle.dm_program.specs.Printed.{by_rule}
@@ -12,5 +14,9 @@ use Rattle.dm_program.specs.Printed.{by_rule}
 abbrev pub traced_by_rule : TraceMeans
 traced_by_rule = record { comes_to = λ b bytes v. verdict b bytes ≡ v; is_of = IsTrace; due_in = λ b bytes line due. due_by_rule b bytes line ≡ Some due }
 
+-- of messages: what is in those that the kernel without machines holds
+abbrev pub held_by_rule : Holding by_rule
+held_by_rule b p letters = HoldsLetters p.end letters
+
 abbrev pub of_rule : Terms
-of_rule = record { run = by_rule; trace = traced_by_rule }
+of_rule = record { run = by_rule; holds = held_by_rule; trace = traced_by_rule }

@@ -87,6 +87,13 @@ const TRIED: [Tried; 8] = [
         calls: READ_AND_WRITTEN,
     },
     Tried {
+        name: "look",
+        words: "look --boot boot --schedule other --at 1",
+        other: "hi.schedule",
+        output: "look_letter.out",
+        calls: READ_AND_WRITTEN,
+    },
+    Tried {
         name: "drill",
         words: "drill --seed 0 --machines 2 --lines 1",
         other: "hi.schedule",

@@ -1,6 +1,7 @@
 -- The words, as the command takes them.
 use Rattle.dm_words.proofs.Names.{◌≡◌, List, [], ◌∷◌, codes, true, false, arith, refl, ap, sym, subst, ◌∙◌, None, if◌then◌else◌, option_map, ap₂, ne_eqb, option_and_then, Option, App, HasMatchesOf, Kinds, Text, fault_of, first_value}
 use Rattle.dm_words.proofs.Names.{is_simple, is_simple_and_free, rows_of, subcommand_of, subcommand_rows_of, Row, first_of, is_empty, ArgMatches, Found, clap_on_literals, first_value-rows, explain_request, explaining, both_files, two_files}
+use Rattle.dm_words.proofs.Names.{ℕ, groups_of, look_request, looking}
 use Rattle.dm_words.proofs.Names.{Bool, ◌&&◌, built, is_free_app, Request, demosmp, request_at, request_of, Some}
 
 -- no option of the command has a rule on another
@@ -59,6 +60,20 @@ pub explain_found : (f : Found) (first second third : Option Text) → first ≡
 explain_found f first second third is also last =
     sym (ap₂ (λ (a b : Option Text). explaining a b third) (is ∙ first_value-rows f (codes "boot")) (also ∙ first_value-rows f (codes "schedule"))
     ∙ ap (λ (o : Option Text). explaining (first_of (codes "boot") (rows_of f)) (first_of (codes "schedule") (rows_of f)) o) (last ∙ first_value-rows f (codes "trace")))
+
+pub no_look : (f : Found) (first : Option Text) → first ≡ first_value f (codes "boot") → first ≡ None → look_request (rows_of f) ≡ None
+no_look f first is none = ap (λ o. looking o (first_of (codes "schedule") (rows_of f)) (groups_of (rows_of f))) (sym (first_value-rows f (codes "boot")) ∙ sym is ∙ none)
+
+pub look_found : (f : Found) (first second : Option Text) (groups : Option ℕ) → first ≡ first_value f (codes "boot") → second ≡ first_value f (codes "schedule") → groups ≡ groups_of (rows_of f) → look_request (rows_of f) ≡ looking first second groups
+look_found f first second groups is also many = sym (ap₂ (λ x y. looking x y groups) (is ∙ first_value-rows f (codes "boot")) (also ∙ first_value-rows f (codes "schedule")) ∙ ap (looking (first_of (codes "boot") (rows_of f)) (first_of (codes "schedule") (rows_of f))) many)
+
+no_second : (first : Option Text) (groups : Option ℕ) → looking first None groups ≡ None
+no_second None groups = refl
+no_second (Some v) groups = refl
+
+pub no_look_schedule : (f : Found) (first second : Option Text) → first ≡ first_value f (codes "boot") → second ≡ first_value f (codes "schedule") → second ≡ None → look_request (rows_of f) ≡ None
+no_look_schedule f first second is also none =
+    look_found f first second (groups_of (rows_of f)) is also refl ∙ (ap (λ y. looking first y (groups_of (rows_of f))) none ∙ no_second first (groups_of (rows_of f)))
 
 -- what is asked for by the name and the matches of the subcommand that was used
 pub used_rows : {B : Type 0} (name : B → Text) (rows : B → List Row) (o : Option B) (n : Text) (rs : List Row) → Some n ≡ option_map name o → Some rs ≡ option_map (λ (p : Text × List Row). p.1) (option_map (λ b. (name b, rows b)) o) → option_and_then request_at (option_map (λ b. (name b, rows b)) o) ≡ request_at (n, rs)

@@ -7,7 +7,7 @@ use Rattle.dm_words.proofs.Names.{reacted, reading_by, refused, settled, settled
 use Rattle.dm_words.proofs.Names.{used_as, used_by_id, value, values_or_missing, waits, walk, walk_from, walked, walked_from, with_default, with_values, without, word_met, done, check_kinds, or_else, range_kinds, is_given, action_fault}
 use Rattle.dm_words.proofs.Names.{bundle_step_fault, check_fault, defaults_fault, entered_fault, flag_word_fault, flags_fault, level_fault, long_fault, option_fault, other_fault, positional_fault, react_fault, settle_fault, short_fault}
 use Rattle.dm_words.proofs.Names.{step_fault, stray_fault, use_fault, walk_fault, word_fault, Shape, argument_words, built, entered, label_of, labels_of, rows_at, ValueSource, DefaultValue, CommandLine, Reading, drill_by, has_system, lines_asked, own_by, run_by, schedule_of, shows_by}
-use Rattle.dm_words.proofs.Names.{machines_asked, seed_of, trace_of, explaining, both_files, Request, Chart, Check, Count, Explain, Judge, Run, run_command, AreTaken, IsTaken, demosmp, request_at, request_of, Some, Drill, OwnDrill}
+use Rattle.dm_words.proofs.Names.{machines_asked, seed_of, trace_of, explaining, both_files, Request, Chart, Check, Count, Explain, Judge, Run, run_command, AreTaken, IsTaken, demosmp, request_at, request_of, Some, Drill, OwnDrill, groups_of, looking, Look}
 use Rattle.dm_draw.specs.declared.drill.Shows.TheVariants as shows
 use Rattle.clap.specs.Walk.{Text}
 use Rattle.clap.specs.Kinds.{Kinds}
@@ -292,8 +292,11 @@ explain_built = in_place 3 (built demosmp).subs
 abbrev count_built : Shape
 count_built = in_place 4 (built demosmp).subs
 
+abbrev look_built : Shape
+look_built = in_place 5 (built demosmp).subs
+
 abbrev drill_built : Shape
-drill_built = in_place 5 (built demosmp).subs
+drill_built = in_place 6 (built demosmp).subs
 
 each_of_run : Each run_built.rules
 each_of_run = (inl (refl, refl), (inl (refl, refl), (inr refl, tt)))
@@ -310,6 +313,9 @@ each_of_explain = (inl (refl, refl), (inl (refl, refl), (inl (refl, refl), (inr 
 each_of_count : Each count_built.rules
 each_of_count = (inl (refl, refl), (inl (refl, refl), (inr refl, tt)))
 
+each_of_look : Each look_built.rules
+each_of_look = (inl (refl, refl), (inl (refl, refl), (inl (refl, refl), (inr refl, tt))))
+
 one_given : (x : Bool) → check_kinds false false (not x || false) ≡ [] → x ≡ true
 one_given true e = refl
 one_given false e = cc
@@ -318,6 +324,11 @@ both_given : (x y : Bool) → check_kinds false false (not x || (not y || false)
 both_given true true e = (refl, refl)
 both_given true false e = cc
 both_given false y e = cc
+
+two_given : (x y rest : Bool) → check_kinds false false (not x || (not y || rest)) ≡ [] → (x ≡ true) × (y ≡ true)
+two_given true true rest e = (refl, refl)
+two_given true false rest e = cc
+two_given false y rest e = cc
 
 -- the matches of a command
 abbrev matched : Shape → List Text → List Row
@@ -337,6 +348,18 @@ names_both s one other words each checks e =
     let ends : Full end.rows = full_walk s [] each words (walk_from nothing_held) passes.walks tt in
     let full : Full (matched s words) = full_defaults s.rules (settled s.rules end).rows (full_settled s.rules each s.args_override_self end passes.settles ends) in
     let given = both_given (is_given one (matched s words)) (is_given other (matched s words)) (sym (checks (matched s words)) ∙ passes.checks) in
+    record { first = given_first one (matched s words) full given.0; second = given_first other (matched s words) full given.1 }
+
+-- so does one that has to say a third word
+names_two : (s : Shape) (one other third : Text) (words : List Text) → Each s.rules
+    → ((rows : List Row) → check_fault s rows false ≡ check_kinds false false (not (is_given one rows) || (not (is_given other rows) || (not (is_given third rows) || false))))
+    → level_fault s [] nothing_held words false [] ≡ [] → NamesBoth one other (matched s words)
+names_two s one other third words each checks e =
+    let end : Held = (walk s.rules [] nothing_held words).held in
+    let passes = level_passes s [] nothing_held words false [] e in
+    let ends : Full end.rows = full_walk s [] each words (walk_from nothing_held) passes.walks tt in
+    let full : Full (matched s words) = full_defaults s.rules (settled s.rules end).rows (full_settled s.rules each s.args_override_self end passes.settles ends) in
+    let given = two_given (is_given one (matched s words)) (is_given other (matched s words)) (not (is_given third (matched s words)) || false) (sym (checks (matched s words)) ∙ passes.checks) in
     record { first = given_first one (matched s words) full given.0; second = given_first other (matched s words) full given.1 }
 
 -- and one that has to name one file names it
@@ -384,6 +407,17 @@ count_asks words e values =
     let names = names_both count_built (codes "boot") (codes "schedule") words each_of_count (λ rows. refl) e in
     (Count names.first.0 names.second.0, ap₂ (both_files (λ boot schedule. Count boot schedule)) names.first.1 names.second.1)
 
+looks : (boot schedule : Text) (groups : Option ℕ) → is_some groups ≡ true → (r : Request) × (looking (Some boot) (Some schedule) groups ≡ Some r)
+looks boot schedule (Some groups) e = (Look boot schedule groups, refl)
+looks boot schedule None e = cc
+
+look_asks : Asks look_built
+look_asks words e values =
+    let rows : List Row = matched look_built words in
+    let names = names_two look_built (codes "boot") (codes "schedule") (codes "at") words each_of_look (λ rows. refl) e in
+    let asked = looks names.first.0 names.second.0 (groups_of rows) values in
+    (asked.0, ap₂ (λ x y. looking x y (groups_of rows)) names.first.1 names.second.1 ∙ asked.1)
+
 -- a command that takes the numbers of a drill does it, of a system that is drawn or of a boot file's
 drawn_there : (schedule trace : Bool) (seed machines lines : Option ℕ) → is_some seed && (is_some lines && (is_some machines && not schedule)) ≡ true → (r : Request) × (run_by schedule trace seed machines lines ≡ Some r)
 drawn_there false trace (Some seed) (Some machines) (Some lines) e = (Drill (record { seed = seed; machines = machines; lines = lines; trace = trace }), refl)
@@ -424,7 +458,7 @@ AllAsk (s ∷ ss) = Asks s × AllAsk ss
 
 -- a row a command
 all_ask : AllAsk (built demosmp).subs
-all_ask = (run_asks, (check_asks, (chart_asks, (explain_asks, (count_asks, (drill_asks, tt))))))
+all_ask = (run_asks, (check_asks, (chart_asks, (explain_asks, (count_asks, (look_asks, (drill_asks, tt)))))))
 
 abbrev AsksIf : Option Shape → Type 0
 AsksIf None = ⊤

@@ -14,7 +14,8 @@ use Rattle.dm_words.specs.DrillWords.{IsWithin, OwnIsWithin, drawn_by, drill_by,
 use Rattle.dm_draw.specs.declared.drill.Shows.{Shows}
 use Rattle.dm_words.specs.ExplainWords.{explaining}
 use Rattle.dm_words.specs.FileWords.{both_files}
-use Rattle.dm_words.specs.Request.{Request, Chart, Check, Count, Drill, Explain, Judge, OwnDrill, Run}
+use Rattle.dm_words.specs.Request.{Request, Chart, Check, Count, Drill, Explain, Judge, OwnDrill, Run, Look}
+use Rattle.dm_words.specs.LookWords.{groups_of, look_request, looking}
 use Rattle.dm_words.specs.RunWords.{run_request}
 use Rattle.dm_words.specs.Words.{Command, commands, demosmp, request_at, request_in, request_of}
 
@@ -27,6 +28,7 @@ Fits (Some (Chart boot schedule)) = ⊤
 Fits (Some (Explain boot schedule)) = ⊤
 Fits (Some (Judge boot trace)) = ⊤
 Fits (Some (Count boot schedule)) = ⊤
+Fits (Some (Look boot schedule groups)) = ⊤
 Fits (Some (Drill drill)) = IsWithin drill
 Fits (Some (OwnDrill boot drill)) = OwnIsWithin drill
 
@@ -94,6 +96,15 @@ chart_fits rows = both_fit (λ boot schedule. Chart boot schedule) (first_of (co
 count_fits : (rows : List Row) → Fits (count_request rows)
 count_fits rows = both_fit (λ boot schedule. Count boot schedule) (first_of (codes "boot") rows) (first_of (codes "schedule") rows) (λ x y. tt)
 
+looking_fits : (boot schedule : Option (List ℕ)) (groups : Option ℕ) → Fits (looking boot schedule groups)
+looking_fits (Some boot) (Some schedule) (Some groups) = tt
+looking_fits (Some boot) (Some schedule) None = tt
+looking_fits (Some boot) None groups = tt
+looking_fits None schedule groups = tt
+
+look_fits : (rows : List Row) → Fits (look_request rows)
+look_fits rows = looking_fits (first_of (codes "boot") rows) (first_of (codes "schedule") rows) (groups_of rows)
+
 drill_fits_by : (boot machines : Option (List ℕ)) (rows : List Row) → Fits (drill_by boot machines rows)
 drill_fits_by None machines rows =
     run_fits_by (schedule_of rows) (trace_of rows) (seed_of rows) (machines_asked rows) (lines_asked rows) (named (first_of (codes "machines") rows) read_u8 2 16) (named (first_of (codes "lines") rows) read_u32 1 10000)
@@ -105,7 +116,7 @@ drill_fits rows = drill_fits_by (first_of (codes "boot") rows) (first_of (codes 
 
 -- a row a command
 commands_fit : AllFit commands
-commands_fit = (run_fits, (check_fits, (chart_fits, (λ rows. explain_fits (first_of (codes "boot") rows) (first_of (codes "schedule") rows) (first_of (codes "trace") rows), (count_fits, (drill_fits, tt))))))
+commands_fit = (run_fits, (check_fits, (chart_fits, (λ rows. explain_fits (first_of (codes "boot") rows) (first_of (codes "schedule") rows) (first_of (codes "trace") rows), (count_fits, (look_fits, (drill_fits, tt)))))))
 
 if_fits : (b : Bool) (x y : Option Request) → Fits x → Fits y → Fits (if b then x else y)
 if_fits true x y h k = h

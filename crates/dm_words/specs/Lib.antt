@@ -7,4 +7,5 @@ pub mod DrillWords
 pub mod ChartWords
 pub mod ExplainWords
 pub mod CountWords
+pub mod LookWords
 pub mod Words

@@ -18,6 +18,8 @@ pub data Request : Type 0 where
   Judge : (boot : List ℕ) → (trace : List ℕ) → Request
   -- to run the schedule of the second name on the system of the boot file of the first, and count what happens
   Count : (boot : List ℕ) → (schedule : List ℕ) → Request
+  -- to say where the run of the schedule of the second name stands behind so many groups, and what is in the messages
+  Look : (boot : List ℕ) → (schedule : List ℕ) → (groups : ℕ) → Request
   -- to do the drill that is drawn from these numbers
   Drill : (drill : TheDrill) → Request
   -- to do the drill of the system of the boot file of this name that is drawn from these numbers, or to write its directives

@@ -13,6 +13,7 @@ ghost use Rattle.dm_words.specs.FileWords.{file_command as file_shape, file_opti
 ghost use Rattle.dm_words.specs.RunWords.{run_request as run_asked};
 ghost use Rattle.dm_words.specs.Words.{HasShape, IsInRange, IsTaken, bare, demosmp, request_at, request_of, request_said};
 
+use crate::look::{look_command, look_request};
 use clap::{Arg, ArgAction, ArgMatches, Command};
 use dm_draw::drill::{Drill, OwnDrill, Shows};
 use dm_ending::status::Status;
@@ -79,6 +80,12 @@ pub enum Request<'a> {
         boot: &'a str,
         schedule: &'a str,
     },
+    /// To say where the run of a schedule stands behind so many groups, and what is in the messages.
+    Look {
+        boot: &'a str,
+        schedule: &'a str,
+        groups: u32,
+    },
     /// To do a drill: its machines are 2 to 16, its directives 1 to 10,000.
     Drill(Drill),
     /// To do a drill of the system of a boot file, or to write its directives, which are 1 to 10,000.
@@ -118,7 +125,8 @@ fn command<'a>(alloc: Global) -> Result<Command<'a>, NoMemory>
     let three = with_command(two, file_command(alloc, "chart", "boot", "schedule"))?;
     let four = with_command(three, explain_command(alloc))?;
     let five = with_command(four, file_command(alloc, "count", "boot", "schedule"))?;
-    with_command(five, drill_command(alloc))
+    let six = with_command(five, look_command(alloc))?;
+    with_command(six, drill_command(alloc))
 }
 
 /// The command line of the program, before its commands.
@@ -178,7 +186,7 @@ fn drill_command<'a>(alloc: Global) -> Result<Command<'a>, NoMemory>
 }
 
 /// The option `--name FILE`, which has to be there.
-fn file<'a>(alloc: Global, name: &'a str) -> Arg<'a>
+pub(crate) fn file<'a>(alloc: Global, name: &'a str) -> Arg<'a>
     ensures rule { rule_of result ≡ file_option name.now }
     ensures local { result.global ≡ false }
 {
@@ -194,7 +202,7 @@ fn free<'a>(alloc: Global, name: &'a str) -> Arg<'a>
 }
 
 /// The option `--name NUMBER`, which has to be there.
-fn number<'a>(alloc: Global, name: &'a str) -> Arg<'a>
+pub(crate) fn number<'a>(alloc: Global, name: &'a str) -> Arg<'a>
     ensures rule { rule_of result ≡ number_option name.now }
     ensures local { result.global ≡ false }
 {
@@ -239,6 +247,9 @@ fn request_of_command<'a>(name: &str, found: &ArgMatches<'a>) -> Option<Request<
     }
     if name == "count" {
         return count_request(found);
+    }
+    if name == "look" {
+        return look_request(found);
     }
     if name == "drill" {
         return drill_request(found);
@@ -458,7 +469,7 @@ fn has_schedule(matches: &ArgMatches<'_>) -> bool
 }
 
 /// The first value of an option.
-fn value<'a>(matches: &ArgMatches<'a>, name: &str) -> Option<&'a str>
+pub(crate) fn value<'a>(matches: &ArgMatches<'a>, name: &str) -> Option<&'a str>
     ensures { option_map (λ s. s.now) result ≡ first_of name.now (rows_of (found_of matches.now)) }
 {
     matches.get_str(name)

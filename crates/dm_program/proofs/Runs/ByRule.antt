@@ -12,7 +12,7 @@ use Rattle.dm_program.proofs.Runs.Stands.{IsLed, goes_there, comes_there, is_led
 said : (b : Boot) (ds : List Directive) (p : WorldPlace) (gs : List (List Line)) → IsValid b → (h : IsLed b ds p.way gs p.state) → world_next_step (length b.machines) p.state h.left ≡ next_step h.end.kernel.machines h.end h.left
 said b ds p gs valid h = next_is_said b h.stands.steps p.state h.end h.left valid h.stands.leads h.stands.stands h.stands.todo
 
-over : (b : Boot) (ds : List Directive) (p : WorldPlace) (gs : List (List Line)) → IsValid b → (h : IsLed b ds p.way gs p.state) → IsDone b ds p.state p.way → next_step h.end.kernel.machines h.end h.left ≡ None
+pub over : (b : Boot) (ds : List Directive) (p : WorldPlace) (gs : List (List Line)) → IsValid b → (h : IsLed b ds p.way gs p.state) → IsDone b ds p.state p.way → next_step h.end.kernel.machines h.end h.left ≡ None
 over b ds p gs valid h done =
     let n = length b.machines in
     sym (said b ds p gs valid h)

@@ -9,7 +9,7 @@ pub record Wearing (b : Boot) (end : Point) (left : Todo) (from to : ℕ) : Type
   pub worn : IsWorn b end next.step from to
 
 -- no run goes on from there
-no_more : (b : Boot) (end fin : Point) (left rest : Todo) (g : List Line) (more : List (List Line)) (from to : ℕ) → Wearing b end left from to → IsRun b end left (g ∷ more) fin rest → ⊥
+pub no_more : (b : Boot) (end fin : Point) (left rest : Todo) (g : List Line) (more : List (List Line)) (from to : ℕ) → Wearing b end left from to → IsRun b end left (g ∷ more) fin rest → ⊥
 no_more b end fin left rest g more from to w (n, v, next, group, lines, kept, others) =
     let f : w.next ≡ n = let e = w.next_is in cc in
     let due : group_of b end n.step ≡ Some w.worn.group = ap (λ (x : Next). group_of b end x.step) (sym f) ∙ w.worn.due in

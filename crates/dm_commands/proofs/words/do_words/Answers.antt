@@ -11,6 +11,8 @@ use Rattle.dm_commands.specs.Charts.{ChartSays}
 use Rattle.dm_commands.specs.Checks.{CheckSays}
 use Rattle.dm_commands.specs.Commands.{CommandMeets}
 use Rattle.dm_commands.specs.Drills.{CountSays}
+use Rattle.dm_commands.specs.Looks.{LookSays}
+use Rattle.dm_look.specs.Looked.{held_by_world}
 use Rattle.dm_commands.specs.Outside.{around, shelf_around, sink_around}
 use Rattle.dm_commands.specs.Runs.{RunSays}
 use Rattle.dm_commands.specs.Says.{of_world, traced_by_world}
@@ -63,6 +65,14 @@ returns-in-Ok-Count-clause-meets g c =
 
 pub returns-in-Ok-Count-clause-refused : goal.returns-in-Ok-Count-clause-refused
 returns-in-Ok-Count-clause-refused g c = λ usage taken. run_taken (CountSays by_world) _ _ _ _ c.count_files.result (λ b ds before after w h. h) c.count_files.ensures.meets usage
+
+pub returns-in-Ok-Look-clause-meets : goal.returns-in-Ok-Look-clause-meets
+returns-in-Ok-Look-clause-meets g c =
+    let a = around (shelf_around g.F.Shelf.asked g.F.Shelf.told g.F.Shelf.faults g.F.Shelf.last_failed c.args.shelf.now c.look_files.new.shelf) (sink_around g.K.Sink.told g.K.Sink.faults g.K.Sink.last_failed c.args.out.now c.look_files.new.out) in
+    subst (λ (r : Option Request). CommandMeets of_world r a None c.look_files.result) (sym (c.in-Ok-Look.ensures.asks ∙ ap (λ (r : TheRequest). Some (request_said r)) c.in-Ok-Look.field-0-is)) c.look_files.ensures.meets
+
+pub returns-in-Ok-Look-clause-refused : goal.returns-in-Ok-Look-clause-refused
+returns-in-Ok-Look-clause-refused g c = λ usage taken. run_taken (LookSays by_world held_by_world c.in-Ok-Look.groups) _ _ _ _ c.look_files.result (λ b ds before after w h. h) c.look_files.ensures.meets.as_run usage
 
 pub drill-requires : goal.drill-requires
 drill-requires g c = record { law = c.requires.law; within = subst IsInRange c.in-Ok-Drill.field-0-is c.in-Ok-Drill.ensures.within }

@@ -1,0 +1,6 @@
+pub mod Letters
+pub mod LetterText
+pub mod Waiting
+pub mod Ranks
+pub mod Groups
+pub mod Looked
