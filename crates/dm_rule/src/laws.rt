@@ -27,9 +27,11 @@ pub fn tells_right_always()
 {}
 
 /// Wherever the rule leads from a boot file, migrations included, each process has a phase: it was never made, it rests on one
-/// machine, it has ended on one, or it moves from one to another. The phase says what every machine knows of the process, whether
-/// all of it has come, and which one message of its migration is under way, from whom, and where it stands; beside that message
-/// only what is left over of a migration that was called off stands anywhere: what asks for a piece, or the piece.
+/// machine, it has ended, and the machine where it did has forgotten it, or it moves from one machine to another. (Once no machine
+/// knows of it, one that has ended is, by what machines know, as one that was never made.) The phase says what every machine knows
+/// of the process, whether all of it has come, and which one message of its migration is under way, from whom, and where it stands;
+/// beside that message only what is left over of a migration that was called off stands anywhere: what asks for a piece, or the
+/// piece.
 pub fn phases_always()
     ensures { PhasesAlways }
 {}
