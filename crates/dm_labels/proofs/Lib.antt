@@ -1,0 +1,4 @@
+pub mod Words
+pub mod Judging
+pub mod Exactly
+pub mod Printing

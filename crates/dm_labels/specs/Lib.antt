@@ -1,0 +1,5 @@
+pub mod Names
+pub mod Labels
+pub mod Judged
+pub mod Exact
+pub mod Printed

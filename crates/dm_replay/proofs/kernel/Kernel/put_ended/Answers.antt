@@ -1,0 +1,9 @@
+use Rattle.std.proofs.Common.{refl}
+use Rattle.dm_replay.proofs.Taken.{sound_ended, state_ended}
+use Rattle.dm_replay.proofs.kernel.Kernel.put_ended.Goals as goal
+
+pub returns-clause-state : goal.returns-clause-state
+returns-clause-state c = λ b. state_ended b c.args.self.now (record c.args.self.now { processes = c.put_back.new.self }) c.args.pid c.args.why refl c.put_back.ensures
+
+pub returns-clause-sound : goal.returns-clause-sound
+returns-clause-sound c = λ n h. sound_ended n c.args.self.now (record c.args.self.now { processes = c.put_back.new.self }) c.args.pid c.args.why refl c.put_back.ensures h

@@ -1,0 +1,10 @@
+pub mod Named
+pub mod Living
+pub mod State
+pub mod Answers
+pub mod Steps
+pub mod Sound
+pub mod Traps
+pub mod Tests
+pub mod Serving
+pub mod Begun
