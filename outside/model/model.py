@@ -96,7 +96,7 @@ def do_run(words, write):
 
 
 def do_check(words, write):
-    if standing.COMMANDS and any(word.partition("=")[0] == "--labels" for word in words):
+    if any(word.partition("=")[0] == "--labels" for word in words):
         options = options_of(words, ["--boot", "--labels"])
         boot = boot_of(options)
         write([f"good {check_labels(boot, bytes_of(options['--labels'], LONGEST, 'labels'))} labels"])

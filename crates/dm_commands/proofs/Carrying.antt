@@ -1,6 +1,6 @@
 -- What is said in some terms is said in others to which they are carried.
 use Rattle.dm_commands.proofs.Names.{◌≡◌, inl, inr, ℕ, Bool, true, false, List, length, Option, Some, None, Boot, Directive, IsValid, All, IsFor, World, Verdict, good_verdict, Drill as TheDrill, boot_of_machines, directives_of_drill, IsWithin}
-use Rattle.dm_commands.proofs.Names.{Status, Done, Usage, ReadFault, NoMemory, WriteFault, BootRefused, ScheduleRefused, TooLong, Worn, TraceRefused, Request, Chart, Check, Count, Explain, Judge, Run, Look}
+use Rattle.dm_commands.proofs.Names.{Status, Done, Usage, ReadFault, NoMemory, WriteFault, BootRefused, ScheduleRefused, TooLong, Worn, TraceRefused, Request, Chart, Check, Count, Explain, Judge, Run, Look, LabelsRefused, CheckLabels}
 use Rattle.dm_draw.specs.declared.drill.OwnDrill.{OwnDrill as TheOwnDrill}
 use Rattle.dm_draw.specs.declared.drill.Shows.{Shows}
 use Rattle.dm_draw.specs.declared.drill.Shows.TheVariants as shows
@@ -36,6 +36,7 @@ run_said r q b ds before after world (ScheduleRefused line why) c h = absurd h
 run_said r q b ds before after world (TooLong i) c h = absurd h
 run_said r q b ds before after world (Worn from to) c h = carried_run_wears r q b ds before after from to c h
 run_said r q b ds before after world (TraceRefused line why) c h = absurd h
+run_said r q b ds before after world (LabelsRefused line) c h = absurd h
 
 picture_said : (r q : Notion) (b : Boot) (ds : List Directive) (text : List ℕ) → Carries r q b ds → IsPicture r b ds text → IsPicture q b ds text
 picture_said r q b ds text c (inl whole) = inl (carried_picture r q b ds text c whole)
@@ -53,6 +54,7 @@ chart_said r q b ds before after world (ScheduleRefused line why) c h = absurd h
 chart_said r q b ds before after world (TooLong i) c h = absurd h
 chart_said r q b ds before after world (Worn from to) c h = record { text = h.text; is = carried_before_worn r q b ds h.text from to c h.is; written = h.written }
 chart_said r q b ds before after world (TraceRefused line why) c h = absurd h
+chart_said r q b ds before after world (LabelsRefused line) c h = absurd h
 
 -- a run that is counted, as a drill is
 counted_said : (r q : Notion) (tr : Bool) (k : Report) (b : Boot) (ds : List Directive) (before after : Option (List ℕ)) (world : Option World) (s : Status) → Carries r q b ds → CountedSays r tr k b ds before after world s → CountedSays q tr k b ds before after world s
@@ -66,6 +68,7 @@ counted_said r q tr k b ds before after world (ScheduleRefused line why) c h = a
 counted_said r q tr k b ds before after world (TooLong i) c h = absurd h
 counted_said r q tr k b ds before after world (Worn from to) c h = drill.carried_drill_wears r q tr b ds before after from to c h
 counted_said r q tr k b ds before after world (TraceRefused line why) c h = absurd h
+counted_said r q tr k b ds before after world (LabelsRefused line) c h = absurd h
 
 -- a trace
 pub record CarriesTraces (m n : TraceMeans) (b : Boot) : Type 0 where
@@ -90,6 +93,7 @@ check_said m n b bytes before after (ScheduleRefused line why) c h = absurd h
 check_said m n b bytes before after (TooLong i) c h = absurd h
 check_said m n b bytes before after (Worn from to) c h = absurd h
 check_said m n b bytes before after (TraceRefused line why) c h = (refused_said m n b bytes line why c h.0, h.1)
+check_said m n b bytes before after (LabelsRefused line) c h = absurd h
 
 -- what a command promises that runs a schedule, and of one that checks a trace
 run_met : {F K : Type 0} (Says More : RunSaying) (boot schedule : List ℕ) (a : Around F K) (world : Option World) (s : Status)
@@ -151,6 +155,7 @@ tells_trace m n b bytes (BootRefused number place) text c h = absurd h
 tells_trace m n b bytes (ScheduleRefused line why) text c h = absurd h
 tells_trace m n b bytes (TooLong i) text c h = absurd h
 tells_trace m n b bytes (Worn from to) text c h = absurd h
+tells_trace m n b bytes (LabelsRefused line) text c h = absurd h
 
 tells_judged : (m n : TraceMeans) (files : Option (List ℕ → Option (List ℕ))) (boot trace : List ℕ) (due : Status) (text : List ℕ) → ((b : Boot) → IsValid b → CarriesTraces m n b) → TellsJudged m files boot trace due text → TellsJudged n files boot trace due text
 tells_judged m n files boot trace due text c h = record { system = h.system; bytes = h.bytes; has = h.has; valid = h.valid; tells = tells_trace m n h.system h.bytes due text (c h.system h.valid) h.tells }
@@ -166,6 +171,7 @@ judge_told m n files boot trace WriteFault text c h = absurd h.tells
 judge_told m n files boot trace (ScheduleRefused line why) text c h = absurd h.tells
 judge_told m n files boot trace (TooLong i) text c h = absurd h.tells
 judge_told m n files boot trace (Worn from to) text c h = absurd h.tells
+judge_told m n files boot trace (LabelsRefused line) text c h = absurd h.tells
 
 judge_met : {F K : Type 0} (m n : TraceMeans) (boot trace : List ℕ) (a : Around F K) (world : Option World) (s : Status) → ((b : Boot) → IsValid b → CarriesTraces m n b) → JudgeMeets m boot trace a world s → JudgeMeets n boot trace a world s
 judge_met m n boot trace a world s c h = record {
@@ -188,6 +194,7 @@ pub carried : {F K : Type 0} (t u : Terms) (r : Option Request) (a : Around F K)
 carried t u None a world s c h = h
 carried t u (Some (Run boot schedule)) a world s c h = run_met (RunSays t.run) (RunSays u.run) boot schedule a world s (λ b ds before after valid each says. run_said t.run u.run b ds before after world s (c.runs b ds valid each) says) h
 carried t u (Some (Check boot trace)) a world s c h = check_met (CheckSays t.trace) (CheckSays u.trace) boot trace a world s (λ b bytes before after valid says. check_said t.trace u.trace b bytes before after s (c.traces b valid) says) h
+carried t u (Some (CheckLabels boot labels)) a world s c h = h
 carried t u (Some (Chart boot schedule)) a world s c h = record {
   as_run = run_met (ChartSays t.run) (ChartSays u.run) boot schedule a world s (λ b ds before after valid each says. chart_said t.run u.run b ds before after world s (c.runs b ds valid each) says) h.as_run;
   no_world = h.no_world;

@@ -1,6 +1,6 @@
 -- Files come to one thing: why there is nothing to check is a function of them, where no read fails and memory is there.
 use Rattle.dm_commands.proofs.Names.{◌≡◌, ◌⊎◌, inl, inr, ℕ, List, length, refl, ap, sym, subst, ◌∙◌, cond, nat_lt, Option, Some, Boot, RoseOrFull, Status, Done, Usage, ReadFault, NoMemory, WriteFault, BootRefused, ScheduleRefused}
-use Rattle.dm_commands.proofs.Names.{TooLong, Worn, TraceRefused, HasTrace, NoTrace, most_trace, IsLonger, AfterBoot, IsWant, None}
+use Rattle.dm_commands.proofs.Names.{TooLong, Worn, TraceRefused, LabelsRefused, HasTrace, NoTrace, most_trace, IsLonger, AfterBoot, IsWant, None}
 use Rattle.dm_ending.specs.declared.status.Input.TheVariants as input
 use Rattle.dm_commands.proofs.Outcomes.{Files, boot_part, above, not_above, long_boot, refused_boot, said_boot, want_or_not}
 
@@ -31,6 +31,7 @@ no_trace files boot trace old new Usage quiet some h = absurd h
 no_trace files boot trace old new (ReadFault input.Boot) quiet some h = absurd (quiet h)
 no_trace files boot trace old new (ReadFault input.Schedule) quiet some h = absurd h
 no_trace files boot trace old new (ReadFault input.Trace) quiet some h = absurd (quiet h.holds)
+no_trace files boot trace old new (ReadFault input.Labels) quiet some h = absurd h
 no_trace files boot trace old new (NoMemory lack) quiet some h = absurd (some (lack, refl))
 no_trace files boot trace old new WriteFault quiet some h = absurd h
 no_trace files boot trace old new (BootRefused number place) quiet some h = refused_boot files boot number place _ h
@@ -38,8 +39,10 @@ no_trace files boot trace old new (ScheduleRefused line why) quiet some h = absu
 no_trace files boot trace old new (TooLong input.Boot) quiet some h = long_boot files boot _ h
 no_trace files boot trace old new (TooLong input.Schedule) quiet some h = absurd h
 no_trace files boot trace old new (TooLong input.Trace) quiet some h = long_trace files boot trace h
+no_trace files boot trace old new (TooLong input.Labels) quiet some h = absurd h
 no_trace files boot trace old new (Worn from to) quiet some h = absurd h
 no_trace files boot trace old new (TraceRefused line why) quiet some h = absurd h
+no_trace files boot trace old new (LabelsRefused line) quiet some h = absurd h
 
 -- a trace that is there leaves no other reason than want of memory
 pub only_want : (boot trace : List ℕ) (told : Option Files) (files : Files) (old new : ℕ) (b : Boot) (bytes : List ℕ) (t : Status) → told ≡ Some files → NoTrace told boot trace old new t → HasTrace (Some files) boot trace b bytes → (RoseOrFull old new → ⊥) → IsWant t

@@ -1,5 +1,5 @@
 -- What `explain` promises of a trace.
-use Rattle.dm_commands.proofs.Names.{◌≡◌, ◌⊎◌, inl, inr, ℕ, List, refl, ap, sym, subst, ◌∙◌, Option, Some, None, TheNoMemory, Boot, BootRule, BootTold, Vec, Global, IsValid, World, Input, Status, Done, Usage, ReadFault, NoMemory, WriteFault, BootRefused, ScheduleRefused, TooLong, Worn, TraceRefused, RoseOrFull, HasTrace, NoTrace}
+use Rattle.dm_commands.proofs.Names.{◌≡◌, ◌⊎◌, inl, inr, ℕ, List, refl, ap, sym, subst, ◌∙◌, Option, Some, None, TheNoMemory, Boot, BootRule, BootTold, Vec, Global, IsValid, World, Input, Status, Done, Usage, ReadFault, NoMemory, WriteFault, BootRefused, ScheduleRefused, TooLong, Worn, TraceRefused, LabelsRefused, RoseOrFull, HasTrace, NoTrace}
 use Rattle.dm_commands.proofs.Names.{NoBoot, SaysBoot, HasFile, AfterBoot, IsLonger, TellsRead, Wrote, most_trace, rule_number}
 use Rattle.dm_ending.specs.declared.status.Input.TheVariants as input
 use Rattle.dm_explain.specs.declared.explain.BootTold.TheVariants as told_as
@@ -24,6 +24,7 @@ judge_tells m files boot trace (ScheduleRefused line why) text h = h
 judge_tells m files boot trace (TooLong i) text h = h
 judge_tells m files boot trace (Worn from to) text h = h
 judge_tells m files boot trace (TraceRefused line why) text h = h
+judge_tells m files boot trace (LabelsRefused line) text h = h
 
 -- a status that is due blames no read and no write
 pub due_unwritten : (m : TraceMeans) (files : Option (List ℕ → Option (List ℕ))) (boot trace text : List ℕ) (s : Status) → JudgeTells m files boot trace s text → s ≡ WriteFault → ⊥
@@ -68,27 +69,32 @@ pub no_boot_judged : (files : Option (List ℕ → Option (List ℕ))) (boot tra
 no_boot_judged files boot trace old new (ReadFault input.Boot) silent h = record { why = h; silent = silent }
 no_boot_judged files boot trace old new (ReadFault input.Schedule) silent h = absurd h
 no_boot_judged files boot trace old new (ReadFault input.Trace) silent h = absurd h
+no_boot_judged files boot trace old new (ReadFault input.Labels) silent h = absurd h
 no_boot_judged files boot trace old new (NoMemory lack) silent h = record { why = tt; silent = silent }
 no_boot_judged files boot trace old new (BootRefused number place) silent h = absurd silent
 no_boot_judged files boot trace old new (TooLong input.Boot) silent h = record { why = h; silent = silent }
 no_boot_judged files boot trace old new (TooLong input.Schedule) silent h = absurd h
 no_boot_judged files boot trace old new (TooLong input.Trace) silent h = absurd h
+no_boot_judged files boot trace old new (TooLong input.Labels) silent h = absurd h
 no_boot_judged files boot trace old new Done silent h = absurd h
 no_boot_judged files boot trace old new Usage silent h = absurd h
 no_boot_judged files boot trace old new WriteFault silent h = absurd h
 no_boot_judged files boot trace old new (ScheduleRefused line why) silent h = absurd h
 no_boot_judged files boot trace old new (Worn from to) silent h = absurd h
 no_boot_judged files boot trace old new (TraceRefused line why) silent h = absurd h
+no_boot_judged files boot trace old new (LabelsRefused line) silent h = absurd h
 
 -- a system, and a trace that gives nothing
 pub no_bytes_judged : (files : Option (List ℕ → Option (List ℕ))) (boot trace : List ℕ) (b : Boot) (old new : ℕ) (s : Status) → SaysBoot files boot b → NoBytes files trace old new s → NoneJudged files boot trace old new s
 no_bytes_judged files boot trace b old new (ReadFault input.Trace) says h = record { why = record { b = b; says = says; holds = h }; silent = tt }
 no_bytes_judged files boot trace b old new (ReadFault input.Boot) says h = absurd h
 no_bytes_judged files boot trace b old new (ReadFault input.Schedule) says h = absurd h
+no_bytes_judged files boot trace b old new (ReadFault input.Labels) says h = absurd h
 no_bytes_judged files boot trace b old new (NoMemory lack) says h = record { why = tt; silent = tt }
 no_bytes_judged files boot trace b old new (TooLong input.Trace) says h = record { why = record { b = b; says = says; holds = h }; silent = tt }
 no_bytes_judged files boot trace b old new (TooLong input.Boot) says h = absurd h
 no_bytes_judged files boot trace b old new (TooLong input.Schedule) says h = absurd h
+no_bytes_judged files boot trace b old new (TooLong input.Labels) says h = absurd h
 no_bytes_judged files boot trace b old new Done says h = absurd h
 no_bytes_judged files boot trace b old new Usage says h = absurd h
 no_bytes_judged files boot trace b old new WriteFault says h = absurd h
@@ -96,6 +102,7 @@ no_bytes_judged files boot trace b old new (BootRefused number place) says h = a
 no_bytes_judged files boot trace b old new (ScheduleRefused line why) says h = absurd h
 no_bytes_judged files boot trace b old new (Worn from to) says h = absurd h
 no_bytes_judged files boot trace b old new (TraceRefused line why) says h = absurd h
+no_bytes_judged files boot trace b old new (LabelsRefused line) says h = absurd h
 
 -- no reason is that a word was refused
 pub judge_taken : {F K : Type 0} (m : TraceMeans) (boot trace : List ℕ) (a : Around F K) (world : Option World) (s : Status) → JudgeMeets m boot trace a world s → s ≡ Usage → ⊥

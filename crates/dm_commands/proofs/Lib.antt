@@ -7,6 +7,7 @@ pub mod Running
 mod Charting
 pub mod CheckOutcomes
 mod Checking
+pub mod LabelOutcomes
 pub mod Drills
 pub mod ExplainOutcomes
 pub mod Judging

@@ -36,7 +36,7 @@ pub use Rattle.dm_ending.specs.Ended.{ended_with}
 pub use Rattle.dm_ending.specs.Status.{BlamesShelf, BlamesSink, IsWant}
 pub use Rattle.dm_ending.specs.declared.status.Input.{Input}
 pub use Rattle.dm_ending.specs.declared.status.Status.{Status}
-pub use Rattle.dm_ending.specs.declared.status.Status.TheVariants.{BootRefused, Done, NoMemory, ReadFault, ScheduleRefused, TooLong, TraceRefused, Usage, Worn, WriteFault}
+pub use Rattle.dm_ending.specs.declared.status.Status.TheVariants.{BootRefused, Done, NoMemory, ReadFault, ScheduleRefused, TooLong, TraceRefused, LabelsRefused, Usage, Worn, WriteFault}
 pub use Rattle.dm_ending.specs.declared.stop.Stop.{Stop}
 pub use Rattle.dm_run.specs.Appended.{IsCutShort}
 pub use Rattle.dm_run.specs.Coming.{Blames}
@@ -47,7 +47,7 @@ pub use Rattle.dm_drill.proofs.Going.{nothing_drilled}
 pub use Rattle.dm_drill.specs.Drilled.{Ended}
 pub use Rattle.dm_words.specs.DrillWords.{IsWithin}
 pub use Rattle.dm_words.specs.Refused.{status_of_no}
-pub use Rattle.dm_words.specs.Request.{Chart, Check, Count, Explain, Judge, Request, Run, Look}
+pub use Rattle.dm_words.specs.Request.{Chart, Check, Count, Explain, Judge, Request, Run, Look, CheckLabels}
 pub use Rattle.dm_words.specs.Words.{IsInRange, request_of, request_said}
 pub use Rattle.dm_words.specs.declared.words.Request.{Request as TheRequest}
 pub use Rattle.dm_words.specs.declared.words.WordsError.{WordsError}

@@ -1,12 +1,13 @@
 -- What the program promises, whatever its words ask for.
 use Rattle.dm_commands.proofs.Names.{◌≡◌, inl, inr, ℕ, List, refl, ap, sym, subst, ◌∙◌, Option, Some, None, TheNoMemory, Boot, Directive, World, Input, Status, Done, Usage, ReadFault, NoMemory, WriteFault, NoFiles, NoTrace, NoInputs, NoBoot, Drill as TheDrill}
-use Rattle.dm_commands.proofs.Names.{Request, Chart, Check, Count, Explain, Judge, Run, WordsError, status_of_no, Look}
+use Rattle.dm_commands.proofs.Names.{Request, Chart, Check, Count, Explain, Judge, Run, WordsError, status_of_no, Look, CheckLabels}
 use Rattle.dm_words.specs.Request.{Drill, OwnDrill}
 use Rattle.dm_words.specs.declared.words.WordsError.TheVariants as why
 use Rattle.dm_ending.specs.declared.status.Input.TheVariants as input
 use Rattle.dm_commands.proofs.Checking as checking
 use Rattle.dm_commands.proofs.ExplainOutcomes as explaining
 use Rattle.dm_commands.proofs.Judging.{lack_judged, never_judges}
+use Rattle.dm_commands.proofs.LabelOutcomes.{labels_never}
 use Rattle.dm_commands.proofs.Meeting.{asks_nothing, unread, unwritten}
 use Rattle.dm_commands.proofs.OwnDrilling.{own_never}
 use Rattle.dm_commands.proofs.Running as running
@@ -46,6 +47,8 @@ lacks_meets t (Some (Run boot schedule)) a world lack quiet fits h nothing =
     running.never_meets (RunSays t.run) boot schedule a world (NoMemory lack) tt (unread (Both boot input.Schedule schedule) a.shelf (NoMemory lack) h.unread (asks_nothing (Both boot input.Schedule schedule) a.shelf h.unread nothing) (no_read lack)) h.unwritten h.no_world
 lacks_meets t (Some (Check boot trace)) a world lack quiet fits h nothing =
     checking.never_meets (CheckSays t.trace) boot trace a world (NoMemory lack) tt (unread (Both boot input.Trace trace) a.shelf (NoMemory lack) h.unread (asks_nothing (Both boot input.Trace trace) a.shelf h.unread nothing) (no_read lack)) h.unwritten h.no_world
+lacks_meets t (Some (CheckLabels boot labels)) a world lack quiet fits h nothing =
+    labels_never boot labels a world (NoMemory lack) tt (unread (Both boot input.Labels labels) a.shelf (NoMemory lack) h.unread (asks_nothing (Both boot input.Labels labels) a.shelf h.unread nothing) (no_read lack)) h.unwritten h.no_world
 lacks_meets t (Some (Chart boot schedule)) a world lack quiet fits h nothing = record {
   as_run = running.never_meets (ChartSays t.run) boot schedule a world (NoMemory lack) tt (unread (Both boot input.Schedule schedule) a.shelf (NoMemory lack) h.unread (asks_nothing (Both boot input.Schedule schedule) a.shelf h.unread nothing) (no_read lack)) h.unwritten h.no_world;
   no_world = h.no_world;
@@ -113,6 +116,7 @@ command_met t None a world s h = record {
 }
 command_met t (Some (Run boot schedule)) a world s h = h.met
 command_met t (Some (Check boot trace)) a world s h = h.met
+command_met t (Some (CheckLabels boot labels)) a world s h = h.met
 command_met t (Some (Chart boot schedule)) a world s h = h.as_run.met
 command_met t (Some (Explain boot schedule)) a world s h = h.met
 command_met t (Some (Judge boot trace)) a world s h = h.met

@@ -1,6 +1,6 @@
 -- Files say one thing: why there is no run is a function of them, where no read fails and memory is there.
 use Rattle.dm_commands.proofs.Names.{◌≡◌, ◌⊎◌, inl, inr, ◌≤◌, ◌<◌, ℕ, true, false, List, length, refl, ap, ap₂, sym, subst, ◌∙◌, cond, nat_lt, arith, nat_tests, Option, Some, Result, Ok, Err, Boot, BootRule, rule_number, Directive}
-use Rattle.dm_commands.proofs.Names.{Schedule, Accepted, Refused, RoseOrFull, Status, Done, Usage, ReadFault, NoMemory, WriteFault, BootRefused, ScheduleRefused, TooLong, Worn, TraceRefused, AcceptsFiles, AfterBoot, HasFile, NoFiles}
+use Rattle.dm_commands.proofs.Names.{Schedule, Accepted, Refused, RoseOrFull, Status, Done, Usage, ReadFault, NoMemory, WriteFault, BootRefused, ScheduleRefused, TooLong, Worn, TraceRefused, LabelsRefused, AcceptsFiles, AfterBoot, HasFile, NoFiles}
 use Rattle.dm_commands.proofs.Names.{RefusesBoot, RefusesSchedule, SaysBoot, SaysDirectives, most_boot, most_schedule, IsLonger, IsWant, None}
 use Rattle.dm_boot.specs.Boot.{boot_of}
 use Rattle.dm_schedule.specs.Schedule.{directives_of, number_of_fault}
@@ -98,6 +98,7 @@ no_files files boot schedule old new Usage quiet some h = absurd h
 no_files files boot schedule old new (ReadFault input.Boot) quiet some h = absurd (quiet h)
 no_files files boot schedule old new (ReadFault input.Schedule) quiet some h = absurd (quiet h.holds)
 no_files files boot schedule old new (ReadFault input.Trace) quiet some h = absurd h
+no_files files boot schedule old new (ReadFault input.Labels) quiet some h = absurd h
 no_files files boot schedule old new (NoMemory lack) quiet some h = absurd (some (lack, refl))
 no_files files boot schedule old new WriteFault quiet some h = absurd h
 no_files files boot schedule old new (BootRefused number place) quiet some h = refused_boot files boot number place _ h
@@ -105,8 +106,10 @@ no_files files boot schedule old new (ScheduleRefused line why) quiet some h = b
 no_files files boot schedule old new (TooLong input.Boot) quiet some h = long_boot files boot _ h
 no_files files boot schedule old new (TooLong input.Schedule) quiet some h = late_schedule files boot schedule h
 no_files files boot schedule old new (TooLong input.Trace) quiet some h = absurd h
+no_files files boot schedule old new (TooLong input.Labels) quiet some h = absurd h
 no_files files boot schedule old new (Worn from to) quiet some h = absurd h
 no_files files boot schedule old new (TraceRefused line why) quiet some h = absurd h
+no_files files boot schedule old new (LabelsRefused line) quiet some h = absurd h
 
 -- a status is want of memory, or isn't
 pub want_or_not : (s : Status) → IsWant s ⊎ (IsWant s → ⊥)
@@ -120,6 +123,7 @@ want_or_not (ScheduleRefused line why) = inr (λ w. let e : ScheduleRefused line
 want_or_not (TooLong i) = inr (λ w. let e : TooLong i ≡ NoMemory w.0 = w.1 in cc)
 want_or_not (Worn from to) = inr (λ w. let e : Worn from to ≡ NoMemory w.0 = w.1 in cc)
 want_or_not (TraceRefused line why) = inr (λ w. let e : TraceRefused line why ≡ NoMemory w.0 = w.1 in cc)
+want_or_not (LabelsRefused line) = inr (λ w. let e : LabelsRefused line ≡ NoMemory w.0 = w.1 in cc)
 
 -- two reasons why there is no run are one, unless one of them is want of memory
 pub one_reason : (boot schedule : List ℕ) (told : Option Files) (files : Files) (old new : ℕ) (s t : Status) → told ≡ Some files → NoFiles told boot schedule old new t → NoFiles (Some files) boot schedule old new s → (IsWant s → ⊥) → (RoseOrFull old new → ⊥) → (t ≡ s) ⊎ IsWant t

@@ -10,7 +10,7 @@ use Rattle.dm_ending.specs.declared.status.Status.{Status}
 use Rattle.dm_ending.specs.declared.status.Status.TheVariants.{Usage}
 use Rattle.dm_ending.specs.Status.{IsWant}
 use Rattle.dm_words.specs.DrillWords.{IsWithin}
-use Rattle.dm_words.specs.Request.{Request, Chart, Check, Count, Drill, Explain, Judge, OwnDrill, Run, Look}
+use Rattle.dm_words.specs.Request.{Request, Chart, Check, Count, Drill, Explain, Judge, OwnDrill, Run, Look, CheckLabels}
 use Rattle.dm_draw.specs.declared.drill.Drill.{Drill as TheDrill}
 use Rattle.dm_commands.specs.Asked.{Alone, Both, Named, Nothing, perhaps_both}
 use Rattle.dm_commands.specs.Charts.{ChartMeets, ChartSays}
@@ -20,6 +20,7 @@ use Rattle.dm_commands.specs.Explains.{ExplainMeets}
 use Rattle.dm_commands.specs.Judges.{JudgeMeets}
 use Rattle.dm_commands.specs.Looks.{LookMeets, LookSays}
 use Rattle.dm_commands.specs.OwnDrills.{OwnMeets, OwnSays}
+use Rattle.dm_commands.specs.LabelChecks.{LabelsMeet}
 use Rattle.dm_commands.specs.Meets.{MeetsShelf}
 use Rattle.dm_commands.specs.Outside.{Around, Untouched}
 use Rattle.dm_commands.specs.Runs.{RunMeets, RunSays}
@@ -47,6 +48,7 @@ abbrev pub CommandMeets : {F K : Type 0} → Terms → Option Request → Around
 CommandMeets t None a world s = RefusesWords a world s
 CommandMeets t (Some (Run boot schedule)) a world s = RunMeets (RunSays t.run) boot schedule a world s
 CommandMeets t (Some (Check boot trace)) a world s = CheckMeets (CheckSays t.trace) boot trace a world s
+CommandMeets t (Some (CheckLabels boot labels)) a world s = LabelsMeet boot labels a world s
 CommandMeets t (Some (Chart boot schedule)) a world s = ChartMeets (ChartSays t.run) boot schedule a world s
 CommandMeets t (Some (Explain boot schedule)) a world s = ExplainMeets boot schedule a world s
 CommandMeets t (Some (Judge boot trace)) a world s = JudgeMeets t.trace boot trace a world s
@@ -60,6 +62,7 @@ abbrev pub named_in : Option Request → Named
 named_in None = Nothing
 named_in (Some (Run boot schedule)) = Both boot input.Schedule schedule
 named_in (Some (Check boot trace)) = Both boot input.Trace trace
+named_in (Some (CheckLabels boot labels)) = Both boot input.Labels labels
 named_in (Some (Chart boot schedule)) = Both boot input.Schedule schedule
 named_in (Some (Explain boot schedule)) = perhaps_both boot schedule
 named_in (Some (Judge boot trace)) = Both boot input.Trace trace

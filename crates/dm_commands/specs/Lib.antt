@@ -5,6 +5,7 @@ pub mod Asked
 pub mod Meets
 pub mod Runs
 pub mod Checks
+pub mod LabelChecks
 pub mod Drills
 pub mod OwnDrills
 pub mod Charts

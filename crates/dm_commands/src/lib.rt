@@ -8,6 +8,7 @@ pub mod drill;
 pub mod explain;
 pub mod inputs;
 pub mod judge;
+pub mod label_check;
 pub mod look;
 pub mod own_drill;
 mod read;

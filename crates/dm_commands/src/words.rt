@@ -12,6 +12,7 @@ use crate::count::count_files;
 use crate::drill::drill;
 use crate::explain::explain_files;
 use crate::judge::judge_files;
+use crate::label_check::check_label_files;
 use crate::look::look_files;
 use crate::own_drill::drill_file;
 use crate::run::run_files;
@@ -41,6 +42,9 @@ pub fn do_words<F: Shelf, K: Sink>(
             run_files(alloc, boot, schedule, shelf, out, world)
         }
         Ok(Request::Check { boot, trace }) => check_files(alloc, boot, trace, shelf, out),
+        Ok(Request::CheckLabels { boot, labels }) => {
+            check_label_files(alloc, boot, labels, shelf, out)
+        }
         Ok(Request::Chart { boot, schedule }) => chart_files(alloc, boot, schedule, shelf, out),
         Ok(Request::Explain { boot, schedule }) => {
             explain_files(alloc, boot, schedule, shelf, out)

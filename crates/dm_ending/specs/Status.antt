@@ -4,9 +4,9 @@ use Rattle.std.specs.Fmt.{decimal}
 use Rattle.dm_outside.specs.Outside.{RoseOrFull}
 use Rattle.dm_memory.specs.declared.NoMemory.{NoMemory as TheNoMemory}
 use Rattle.dm_ending.specs.declared.status.Input.{Input}
-use Rattle.dm_ending.specs.declared.status.Input.TheVariants.{Boot, Schedule, Trace}
+use Rattle.dm_ending.specs.declared.status.Input.TheVariants.{Boot, Schedule, Trace, Labels}
 use Rattle.dm_ending.specs.declared.status.Status.{Status}
-use Rattle.dm_ending.specs.declared.status.Status.TheVariants.{Done, Usage, ReadFault, NoMemory, WriteFault, BootRefused, ScheduleRefused, TooLong, Worn, TraceRefused}
+use Rattle.dm_ending.specs.declared.status.Status.TheVariants.{Done, Usage, ReadFault, NoMemory, WriteFault, BootRefused, ScheduleRefused, TooLong, Worn, TraceRefused, LabelsRefused}
 
 -- the number that the program ends with
 abbrev pub code_of : Status → ℕ
@@ -20,12 +20,14 @@ code_of (ScheduleRefused line why) = 7
 code_of (TooLong input) = 8
 code_of (Worn from to) = 9
 code_of (TraceRefused line why) = 10
+code_of (LabelsRefused line) = 10
 
 -- the name of a file that is too long
 abbrev pub input_text : Input → List ℕ
 input_text Boot = codes "boot"
 input_text Schedule = codes "schedule"
 input_text Trace = codes "trace"
+input_text Labels = codes "labels"
 
 -- the line that the program says at its end
 abbrev pub text_of_status : Status → List ℕ
@@ -39,6 +41,7 @@ text_of_status (ScheduleRefused line why) = codes "schedule refused: line " ++ d
 text_of_status (TooLong input) = codes "too long: " ++ input_text input
 text_of_status (Worn from to) = codes "worn: " ++ decimal from ++ codes " to " ++ decimal to
 text_of_status (TraceRefused line why) = codes "trace refused: line " ++ decimal line ++ codes ", why " ++ decimal why
+text_of_status (LabelsRefused line) = codes "labels refused: line " ++ decimal line
 
 -- a text that isn't empty, with a line feed
 abbrev pub as_line : List ℕ → List ℕ

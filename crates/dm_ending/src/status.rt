@@ -20,6 +20,7 @@ pub enum Input {
     Boot,
     Schedule,
     Trace,
+    Labels,
 }
 
 /// How a run of the program ended.
@@ -45,6 +46,8 @@ pub enum Status {
     Worn { from: u8, to: u8 },
     /// The first line of the trace that isn't what the system prints, counted from 1, and what is wrong with it.
     TraceRefused { line: u64, why: u8 },
+    /// The first line of the labels, counted from 1, that is no label, or whose label is no step.
+    LabelsRefused { line: u64 },
 }
 
 impl Status {
@@ -63,6 +66,7 @@ impl Status {
             Status::TooLong(_) => 8,
             Status::Worn { .. } => 9,
             Status::TraceRefused { .. } => 10,
+            Status::LabelsRefused { .. } => 10,
         }
     }
 }
@@ -106,8 +110,10 @@ pub fn status_text(status: &Status) -> ArrayString<LONGEST_LINE>
         Status::TooLong(Input::Boot) => words("too long: boot"),
         Status::TooLong(Input::Schedule) => words("too long: schedule"),
         Status::TooLong(Input::Trace) => words("too long: trace"),
+        Status::TooLong(Input::Labels) => words("too long: labels"),
         Status::Worn { from, to } => worn(from, to),
         Status::TraceRefused { line, why } => trace_refused(line, why),
+        Status::LabelsRefused { line } => labels_refused(line),
     }
 }
 
@@ -154,6 +160,16 @@ fn trace_refused(line: u64, why: u8) -> ArrayString<LONGEST_LINE>
     push_number(&mut text, line);
     text.push_str(", why ");
     push_number(&mut text, why as u64);
+    text
+}
+
+/// What refused labels are told.
+fn labels_refused(line: u64) -> ArrayString<LONGEST_LINE>
+    ensures short { length result.bytes ≤ LONGEST_TEXT }
+    ensures text { result.bytes ≡ text_of_status (Status.LabelsRefused line) }
+{
+    let mut text = words("labels refused: line ");
+    push_number(&mut text, line);
     text
 }
 

@@ -1,6 +1,6 @@
 -- Where no read and no write fails and memory is there, the files decide what a command comes to.
 use Rattle.dm_commands.proofs.Names.{◌≡◌, ◌⊎◌, inl, inr, ℕ, Bool, true, false, List, refl, ap, ap₂, sym, subst, ◌∙◌, Option, Some, None, Boot, Directive, RoseOrFull, appended, Verdict, good_verdict, HasTrace, NoFiles, NoTrace, AcceptsFiles, Drill as TheDrill}
-use Rattle.dm_commands.proofs.Names.{BlamesSink, IsWant, Input, Status, Done, Usage, ReadFault, NoMemory, WriteFault, BootRefused, ScheduleRefused, TooLong, Worn, TraceRefused, Request, Chart, Check, Count, Explain, Judge, Run, boot_of_machines, directives_of_drill, Look}
+use Rattle.dm_commands.proofs.Names.{BlamesSink, IsWant, Input, Status, Done, Usage, ReadFault, NoMemory, WriteFault, BootRefused, ScheduleRefused, TooLong, Worn, TraceRefused, Request, Chart, Check, Count, Explain, Judge, Run, boot_of_machines, directives_of_drill, Look, LabelsRefused, CheckLabels}
 use Rattle.dm_words.specs.Request.{Drill, OwnDrill}
 use Rattle.dm_draw.specs.declared.drill.OwnDrill.{OwnDrill as TheOwnDrill}
 use Rattle.dm_draw.specs.declared.drill.Shows.{Shows}
@@ -23,6 +23,7 @@ use Rattle.dm_commands.specs.OwnDrills.{RunOwnSays, ScheduleSays, SaysOwn, Shown
 use Rattle.dm_commands.specs.Outside.{Around, Outside, outside}
 use Rattle.dm_commands.specs.Runs.{RunSaying, RunSays, SaysRun}
 use Rattle.dm_world.specs.declared.world.World.{World}
+use Rattle.dm_program.proofs.LabelsDecided.{labels_decided}
 use Rattle.dm_program.proofs.LookDecided.{look_decided}
 use Rattle.dm_program.proofs.Runs.Endings.{wears_after, worn_same}
 use Rattle.dm_program.specs.Decided.{Accepts, CheckIsDecided, DrillIsDecided, Finds, GivesGood, GivesRefused, IsDecided, OwnIsDecided, OwnRunIsDecided, RunIsDecided}
@@ -39,6 +40,7 @@ record Tells (Says : Status → Type 0) (b : Boot) (ds : List Directive) : Type 
   schedule : (line why : ℕ) → Says (ScheduleRefused line why) → ⊥
   long : (i : Input) → Says (TooLong i) → ⊥
   trace : (line why : ℕ) → Says (TraceRefused line why) → ⊥
+  labels : (line : ℕ) → Says (LabelsRefused line) → ⊥
 
 to_end : (Says : Status → Type 0) (b : Boot) (ds : List Directive) (old new : ℕ) (s : Status) → Tells Says b ds → Says s → BlamesSink old new s → Lasts b ds → (RoseOrFull old new → ⊥) → (s ≡ Done) ⊎ IsWant s
 to_end Says b ds old new Done t h k l q = inl refl
@@ -51,6 +53,7 @@ to_end Says b ds old new (ScheduleRefused line why) t h k l q = absurd (t.schedu
 to_end Says b ds old new (TooLong i) t h k l q = absurd (t.long i h)
 to_end Says b ds old new (Worn from to) t h k l q = let w = t.worn from to h in absurd (l w.0 from to w.1)
 to_end Says b ds old new (TraceRefused line why) t h k l q = absurd (t.trace line why h)
+to_end Says b ds old new (LabelsRefused line) t h k l q = absurd (t.labels line h)
 
 to_worn : (Says : Status → Type 0) (b : Boot) (ds : List Directive) (old new : ℕ) (s : Status) (from to : ℕ) → Tells Says b ds → Says s → BlamesSink old new s → Wears b ds from to → (RoseOrFull old new → ⊥) → (s ≡ Worn from to) ⊎ IsWant s
 to_worn Says b ds old new Done from to t h k w q = absurd (t.done h w.0 from to w.1)
@@ -66,6 +69,7 @@ to_worn Says b ds old new (Worn x y) from to t h k w q =
     let same = worn_same b ds v.0 w.0 x y from to v.1 w.1 in
     inl (λ i. Worn (same.0 i) (same.1 i))
 to_worn Says b ds old new (TraceRefused line why) from to t h k w q = absurd (t.trace line why h)
+to_worn Says b ds old new (LabelsRefused line) from to t h k w q = absurd (t.labels line h)
 
 -- so it is by the rule
 run_tells : (b : Boot) (ds : List Directive) (before after : Option (List ℕ)) (world : Option World) → Tells (RunSays by_rule b ds before after world) b ds
@@ -78,6 +82,7 @@ run_tells b ds before after world = record {
   schedule = λ line why h. h;
   long = λ i h. h;
   trace = λ line why h. h;
+  labels = λ line h. h;
 }
 
 chart_tells : (b : Boot) (ds : List Directive) (before after : Option (List ℕ)) (world : Option World) → Tells (ChartSays by_rule b ds before after world) b ds
@@ -90,6 +95,7 @@ chart_tells b ds before after world = record {
   schedule = λ line why h. h;
   long = λ i h. h;
   trace = λ line why h. h;
+  labels = λ line h. h;
 }
 
 counted_tells : (tr : Bool) (k : Report) (b : Boot) (ds : List Directive) (before after : Option (List ℕ)) (world : Option World) → Tells (CountedSays by_rule tr k b ds before after world) b ds
@@ -102,6 +108,7 @@ counted_tells tr k b ds before after world = record {
   schedule = λ line why h. h;
   long = λ i h. h;
   trace = λ line why h. h;
+  labels = λ line h. h;
 }
 
 -- a run, or the picture of one
@@ -168,6 +175,7 @@ accepts boot trace told files b bytes before after k k' (BootRefused number plac
 accepts boot trace told files b bytes before after k k' (ScheduleRefused line why) groups ended is has says sink gives quiet = absurd says
 accepts boot trace told files b bytes before after k k' (TooLong i) groups ended is has says sink gives quiet = absurd says
 accepts boot trace told files b bytes before after k k' (Worn from to) groups ended is has says sink gives quiet = absurd says
+accepts boot trace told files b bytes before after k k' (LabelsRefused line) groups ended is has says sink gives quiet = absurd says
 
 finds : (boot trace : List ℕ) (told : Option Files) (files : Files) (b : Boot) (bytes : List ℕ) (before after : Option (List ℕ)) (s : Status) (line why : ℕ) → told ≡ Some files → HasTrace told boot trace b bytes → CheckSays traced_by_rule b bytes before after s
     → GivesRefused files boot trace line why → (s ≡ TraceRefused line why) ⊎ IsWant s
@@ -188,6 +196,7 @@ finds boot trace told files b bytes before after (BootRefused number place) line
 finds boot trace told files b bytes before after (ScheduleRefused l w) line why is has says gives = absurd says
 finds boot trace told files b bytes before after (TooLong i) line why is has says gives = absurd says
 finds boot trace told files b bytes before after (Worn from to) line why is has says gives = absurd says
+finds boot trace told files b bytes before after (LabelsRefused l) line why is has says gives = absurd says
 
 -- a trace
 check_decided : (boot trace : List ℕ) (o : Outside) (s : Status) → SaysCheck (CheckSays traced_by_rule) boot trace o s → BlamesSink o.writes_before o.writes_after s → CheckIsDecided boot trace o s
@@ -239,6 +248,7 @@ written_so b ds before after world old new (ScheduleRefused line why) h k q = ab
 written_so b ds before after world old new (TooLong i) h k q = absurd h
 written_so b ds before after world old new (Worn from to) h k q = absurd h
 written_so b ds before after world old new (TraceRefused line why) h k q = absurd h
+written_so b ds before after world old new (LabelsRefused line) h k q = absurd h
 
 own_decided : (shown : Shows) (boot : List ℕ) (d : TheOwnDrill) (o : Outside) (s : Status) → SaysOwn (ShownSays by_rule d shown) boot d o s → BlamesSink o.writes_before o.writes_after s → OwnIsDecided shown boot d o s
 own_decided shows.Summary boot d o s says sink = own_run_decided false boot d o s says sink
@@ -253,6 +263,7 @@ pub decided : {F K : Type 0} (r : Option Request) (a : Around F K) (world : Opti
 decided None a world s h = tt
 decided (Some (Run boot schedule)) a world s h = run_decided (RunSays by_rule) boot schedule (outside a world) s (λ b ds. run_tells b ds _ _ world) h.says h.met.sink.blames
 decided (Some (Check boot trace)) a world s h = check_decided boot trace (outside a world) s h.says h.met.sink.blames
+decided (Some (CheckLabels boot labels)) a world s h = labels_decided boot labels (outside a world) s h.says h.met.sink.blames
 decided (Some (Chart boot schedule)) a world s h = run_decided (ChartSays by_rule) boot schedule (outside a world) s (λ b ds. chart_tells b ds _ _ world) h.as_run.says h.as_run.met.sink.blames
 decided (Some (Explain boot schedule)) a world s h = tt
 decided (Some (Judge boot trace)) a world s h = tt

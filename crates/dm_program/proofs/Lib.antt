@@ -1,5 +1,6 @@
 pub mod Runs
 mod Traces
+mod LabelsDecided
 mod LookDecided
 mod Deciding
 mod ByRule
@@ -8,4 +9,5 @@ mod Sound
 mod RunsChecked
 mod DrillsChecked
 mod OwnDrilled
+mod LabelsChecked
 mod TracesFor

@@ -12,15 +12,19 @@ use Rattle.dm_draw.specs.declared.drill.OwnDrill.{OwnDrill as TheOwnDrill}
 use Rattle.dm_draw.specs.declared.drill.Shows.{Shows}
 use Rattle.dm_draw.specs.declared.drill.Shows.TheVariants as shows
 use Rattle.dm_ending.specs.declared.status.Status.{Status}
-use Rattle.dm_ending.specs.declared.status.Status.TheVariants.{Done, TraceRefused, Worn}
+use Rattle.dm_ending.specs.declared.status.Status.TheVariants.{Done, LabelsRefused, TraceRefused, Worn}
 use Rattle.dm_ending.specs.Status.{IsWant}
-use Rattle.dm_words.specs.Request.{Request, Chart, Check, Count, Drill, Explain, Judge, OwnDrill, Run, Look}
+use Rattle.dm_words.specs.Request.{Request, Chart, Check, Count, Drill, Explain, Judge, OwnDrill, Run, Look, CheckLabels}
 use Rattle.dm_check.specs.Good.{good_verdict}
 use Rattle.dm_checklaws.specs.Verdict.{verdict}
 use Rattle.dm_commands.specs.Checks.{HasTrace, RefusesTrace, good_line}
 use Rattle.dm_commands.specs.Drills.{directives_of_drill}
 use Rattle.dm_commands.specs.Inputs.{AcceptsFiles, SaysBoot}
 use Rattle.dm_commands.specs.OwnDrills.{directives_for}
+use Rattle.dm_commands.specs.LabelChecks.{HasLabels, good_labels_line}
+use Rattle.dm_labels.specs.Judged.{judged}
+use Rattle.dm_labels.specs.declared.judge.Verdict.{Verdict}
+use Rattle.dm_labels.specs.declared.judge.Verdict.TheVariants as labelled
 use Rattle.dm_commands.specs.Outside.{NeverFails, NeverReadsBadly, Outside}
 use Rattle.dm_program.specs.Printed.{Lasts, Wears, WearsAfter}
 use Rattle.dm_program.specs.Rule.{traced_by_rule}
@@ -71,6 +75,19 @@ pub record CheckIsDecided (boot trace : List ℕ) (o : Outside) (s : Status) : T
   pub accepts : Accepts boot trace o s
   pub finds : Finds boot trace o s
 
+-- what files of these names come to as labels, whoever asks
+pub record GivesLabels (files : List ℕ → Option (List ℕ)) (boot labels : List ℕ) (verdict : Verdict) : Type 0 where
+  pub system : Boot
+  pub bytes : List ℕ
+  pub has : HasLabels (Some files) boot labels system bytes
+  pub judged_so : judged system bytes ≡ verdict
+
+-- so it is with labels: those that are steps are good, and others are refused at the first line that isn't one, unless memory lacks
+pub record LabelsAreDecided (boot labels : List ℕ) (o : Outside) (s : Status) : Type 0 where
+  pub accepts : (files : List ℕ → Option (List ℕ)) (n : ℕ) → o.files ≡ Some files → GivesLabels files boot labels (labelled.Good n) → NeverFails o
+      → ((s ≡ Done) × (o.after ≡ appended o.before (good_labels_line n))) ⊎ IsWant s
+  pub finds : (files : List ℕ → Option (List ℕ)) (line : ℕ) → o.files ≡ Some files → GivesLabels files boot labels (labelled.Refused line) → NeverReadsBadly o → (s ≡ LabelsRefused line) ⊎ IsWant s
+
 -- and with a drill: directives that last come to their end, and others to the worn pair, unless memory lacks or a write fails
 pub record DrillIsDecided (d : TheDrill) (o : Outside) (s : Status) : Type 0 where
   pub completes : Lasts (boot_of_machines d.machines) (directives_of_drill d) → NeverFails o → (s ≡ Done) ⊎ IsWant s
@@ -105,6 +122,7 @@ abbrev pub IsDecided : Option Request → Outside → Status → Type 0
 IsDecided None o s = ⊤
 IsDecided (Some (Run boot schedule)) o s = RunIsDecided boot schedule o s
 IsDecided (Some (Check boot trace)) o s = CheckIsDecided boot trace o s
+IsDecided (Some (CheckLabels boot labels)) o s = LabelsAreDecided boot labels o s
 IsDecided (Some (Chart boot schedule)) o s = RunIsDecided boot schedule o s
 IsDecided (Some (Explain boot schedule)) o s = ⊤
 IsDecided (Some (Judge boot trace)) o s = ⊤

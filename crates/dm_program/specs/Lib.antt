@@ -4,4 +4,5 @@ pub mod Decided
 pub mod Program
 pub mod Laws
 pub mod OwnLaws
+pub mod Labels
 pub mod Theorem

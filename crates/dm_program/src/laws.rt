@@ -1,6 +1,7 @@
 //! What the commands promise together: the theorem on a run, and what the checker says of what the others write.
 ghost use Rattle.dm_program.specs.Laws.{DrillsCheck, DrillsMayStart, RunsCheck, TracesAreFor, WornRunsCheck};
 ghost use Rattle.dm_program.specs.OwnLaws.{OwnDrillsAreFor, OwnDrillsCheck, SchedulesAreTaken};
+ghost use Rattle.dm_program.specs.Labels.{RunLabelsCheck};
 ghost use Rattle.dm_program.specs.Theorem.{RunsAreSound};
 
 /// Whatever the files say, a run that ends with status 0 wrote the text of groups of lines, one for each directive, whose labels are a run
@@ -17,6 +18,12 @@ pub fn runs_check()
 /// That of a run which stopped at two machines that count as many messages as they may is good, open.
 pub fn worn_runs_check()
     ensures { WornRunsCheck }
+{}
+
+/// The labels of a run that came to its end, or stopped at two machines that count as many messages as they may, are good: `check` says so
+/// of them, unless memory lacks.
+pub fn run_labels_check()
+    ensures { RunLabelsCheck }
 {}
 
 /// What `drill --trace` writes of its groups, without the summary, is good, open.

@@ -40,7 +40,7 @@ const READ_AND_WRITTEN: Calls = Calls {
     writes: 1,
 };
 
-const TRIED: [Tried; 8] = [
+const TRIED: [Tried; 10] = [
     Tried {
         name: "run",
         words: "run --boot boot --schedule other",
@@ -56,6 +56,13 @@ const TRIED: [Tried; 8] = [
         words: "check --boot boot --trace other",
         other: "hi.out",
         output: "good_8_ended.out",
+        calls: READ_AND_WRITTEN,
+    },
+    Tried {
+        name: "check of labels",
+        words: "check --boot boot --labels other",
+        other: "labels_remarks.labels",
+        output: "good_11_labels.out",
         calls: READ_AND_WRITTEN,
     },
     Tried {

@@ -27,7 +27,7 @@ struct Large {
     output: &'static str,
 }
 
-const LARGE: [Large; 6] = [
+const LARGE: [Large; 7] = [
     Large {
         name: "run of many groups",
         words: "run --boot boot --schedule other",
@@ -47,6 +47,16 @@ const LARGE: [Large; 6] = [
         times: 70_000,
         group: "",
         output: "good_70000_open.out",
+    },
+    Large {
+        name: "check of many labels",
+        words: "check --boot boot --labels other",
+        boot: "hi.boot",
+        other: "nobody.schedule",
+        line: "ran 0.3 0\n",
+        times: 70_000,
+        group: "",
+        output: "good_70000_labels.out",
     },
     Large {
         name: "count of many groups",

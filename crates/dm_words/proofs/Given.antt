@@ -7,7 +7,7 @@ use Rattle.dm_words.proofs.Names.{reacted, reading_by, refused, settled, settled
 use Rattle.dm_words.proofs.Names.{used_as, used_by_id, value, values_or_missing, waits, walk, walk_from, walked, walked_from, with_default, with_values, without, word_met, done, check_kinds, or_else, range_kinds, is_given, action_fault}
 use Rattle.dm_words.proofs.Names.{bundle_step_fault, check_fault, defaults_fault, entered_fault, flag_word_fault, flags_fault, level_fault, long_fault, option_fault, other_fault, positional_fault, react_fault, settle_fault, short_fault}
 use Rattle.dm_words.proofs.Names.{step_fault, stray_fault, use_fault, walk_fault, word_fault, Shape, argument_words, built, entered, label_of, labels_of, rows_at, ValueSource, DefaultValue, CommandLine, Reading, drill_by, has_system, lines_asked, own_by, run_by, schedule_of, shows_by}
-use Rattle.dm_words.proofs.Names.{machines_asked, seed_of, trace_of, explaining, both_files, Request, Chart, Check, Count, Explain, Judge, Run, run_command, AreTaken, IsTaken, demosmp, request_at, request_of, Some, Drill, OwnDrill, groups_of, looking, Look}
+use Rattle.dm_words.proofs.Names.{machines_asked, seed_of, trace_of, explaining, both_files, Request, Chart, Check, Count, Explain, Judge, Run, run_command, AreTaken, IsTaken, demosmp, request_at, request_of, Some, Drill, OwnDrill, groups_of, looking, Look, CheckLabels, checking, is_just_one}
 use Rattle.dm_draw.specs.declared.drill.Shows.TheVariants as shows
 use Rattle.clap.specs.Walk.{Text}
 use Rattle.clap.specs.Kinds.{Kinds}
@@ -302,7 +302,7 @@ each_of_run : Each run_built.rules
 each_of_run = (inl (refl, refl), (inl (refl, refl), (inr refl, tt)))
 
 each_of_check : Each check_built.rules
-each_of_check = (inl (refl, refl), (inl (refl, refl), (inr refl, tt)))
+each_of_check = (inl (refl, refl), (inl (refl, refl), (inl (refl, refl), (inr refl, tt))))
 
 each_of_chart : Each chart_built.rules
 each_of_chart = (inl (refl, refl), (inl (refl, refl), (inr refl, tt)))
@@ -378,10 +378,20 @@ run_asks words e values =
     let names = names_both run_built (codes "boot") (codes "schedule") words each_of_run (λ rows. refl) e in
     (Run names.first.0 names.second.0, ap₂ (both_files (λ boot schedule. Run boot schedule)) names.first.1 names.second.1)
 
+-- a command that takes a trace or labels checks them
+check_there : (boot : Text) (trace labels : Option Text) → is_just_one trace labels ≡ true → (r : Request) × (checking (Some boot) trace labels ≡ Some r)
+check_there boot (Some trace) None e = (Check boot trace, refl)
+check_there boot None (Some labels) e = (CheckLabels boot labels, refl)
+check_there boot (Some trace) (Some labels) e = cc
+check_there boot None None e = cc
+
 check_asks : Asks check_built
 check_asks words e values =
-    let names = names_both check_built (codes "boot") (codes "trace") words each_of_check (λ rows. refl) e in
-    (Check names.first.0 names.second.0, ap₂ (both_files (λ boot trace. Check boot trace)) names.first.1 names.second.1)
+    let named = names_first check_built (codes "boot") words each_of_check (λ rows. refl) e in
+    let trace : Option Text = first_of (codes "trace") (matched check_built words) in
+    let labels : Option Text = first_of (codes "labels") (matched check_built words) in
+    let there = check_there named.0 trace labels values in
+    (there.0, ap (λ (o : Option Text). checking o trace labels) named.1 ∙ there.1)
 
 chart_asks : Asks chart_built
 chart_asks words e values =

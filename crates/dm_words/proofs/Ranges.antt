@@ -8,13 +8,13 @@ use Rattle.clap.specs.Simple.{subcommand_of}
 use Rattle.clap.specs.Faults.{fault_of}
 use Rattle.dm_text.specs.Reading.{read_u32, read_u8}
 use Rattle.dm_words.specs.ChartWords.{chart_request}
-use Rattle.dm_words.specs.CheckWords.{check_request}
+use Rattle.dm_words.specs.CheckWords.{check_request, checking}
 use Rattle.dm_words.specs.CountWords.{count_request}
 use Rattle.dm_words.specs.DrillWords.{IsWithin, OwnIsWithin, drawn_by, drill_by, drill_request, if_within, lines_asked, machines_asked, own_by, run_by, schedule_of, seed_of, shows_by, trace_of}
 use Rattle.dm_draw.specs.declared.drill.Shows.{Shows}
 use Rattle.dm_words.specs.ExplainWords.{explaining}
 use Rattle.dm_words.specs.FileWords.{both_files}
-use Rattle.dm_words.specs.Request.{Request, Chart, Check, Count, Drill, Explain, Judge, OwnDrill, Run, Look}
+use Rattle.dm_words.specs.Request.{Request, Chart, Check, Count, Drill, Explain, Judge, OwnDrill, Run, Look, CheckLabels}
 use Rattle.dm_words.specs.LookWords.{groups_of, look_request, looking}
 use Rattle.dm_words.specs.RunWords.{run_request}
 use Rattle.dm_words.specs.Words.{Command, commands, demosmp, request_at, request_in, request_of}
@@ -24,6 +24,7 @@ abbrev pub Fits : Option Request → Type 0
 Fits None = ⊤
 Fits (Some (Run boot schedule)) = ⊤
 Fits (Some (Check boot trace)) = ⊤
+Fits (Some (CheckLabels boot labels)) = ⊤
 Fits (Some (Chart boot schedule)) = ⊤
 Fits (Some (Explain boot schedule)) = ⊤
 Fits (Some (Judge boot trace)) = ⊤
@@ -80,6 +81,13 @@ explain_fits (Some boot) schedule None = tt
 explain_fits (Some boot) None (Some trace) = tt
 explain_fits (Some boot) (Some schedule) (Some trace) = tt
 
+checking_fits : (boot trace labels : Option (List ℕ)) → Fits (checking boot trace labels)
+checking_fits None trace labels = tt
+checking_fits (Some boot) (Some trace) None = tt
+checking_fits (Some boot) None (Some labels) = tt
+checking_fits (Some boot) (Some trace) (Some labels) = tt
+checking_fits (Some boot) None None = tt
+
 abbrev AllFit : List Command → Type 0
 AllFit [] = ⊤
 AllFit (c ∷ cs) = ((rows : List Row) → Fits (c.request rows)) × AllFit cs
@@ -88,7 +96,7 @@ run_fits : (rows : List Row) → Fits (run_request rows)
 run_fits rows = both_fit (λ boot schedule. Run boot schedule) (first_of (codes "boot") rows) (first_of (codes "schedule") rows) (λ x y. tt)
 
 check_fits : (rows : List Row) → Fits (check_request rows)
-check_fits rows = both_fit (λ boot trace. Check boot trace) (first_of (codes "boot") rows) (first_of (codes "trace") rows) (λ x y. tt)
+check_fits rows = checking_fits (first_of (codes "boot") rows) (first_of (codes "trace") rows) (first_of (codes "labels") rows)
 
 chart_fits : (rows : List Row) → Fits (chart_request rows)
 chart_fits rows = both_fit (λ boot schedule. Chart boot schedule) (first_of (codes "boot") rows) (first_of (codes "schedule") rows) (λ x y. tt)

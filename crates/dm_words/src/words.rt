@@ -3,7 +3,7 @@ ghost use Rattle.std.specs.Prelude.{◌≡◌, ◌≤◌, map, option_and_then, 
 ghost use Rattle.clap.specs.Words.{app_of, found_of, rows_of, rule_of, subcommand_rows_of, with_subcommand as with_shape};
 ghost use Rattle.clap.specs.Simple.{Shape};
 ghost use Rattle.dm_words.specs.Refused.{status_of_no};
-ghost use Rattle.dm_words.specs.CheckWords.{check_request as check_asked};
+ghost use Rattle.dm_words.specs.CheckWords.{check_command as check_shape, check_request as check_asked, checking};
 ghost use Rattle.clap.specs.Walk.{first_of};
 ghost use Rattle.dm_words.specs.DrillWords.{drill_command as drill_shape, drill_request as drill_asked, flag_option, lines_in, lines_asked, machines_in, machines_asked, number_option, own_by, run_by, schedule_of, seed_of, shows_by, trace_of};
 ghost use Rattle.dm_words.specs.ChartWords.{chart_request as chart_asked};
@@ -59,6 +59,11 @@ pub enum Request<'a> {
     Check {
         boot: &'a str,
         trace: &'a str,
+    },
+    /// To check that the labels of a file are steps of one kernel without machines, from a boot file on.
+    CheckLabels {
+        boot: &'a str,
+        labels: &'a str,
     },
     /// To draw the run of the schedule of a file on the system of a boot file.
     Chart {
@@ -121,7 +126,7 @@ fn command<'a>(alloc: Global) -> Result<Command<'a>, NoMemory>
     ensures { IfOk result (λ c. app_of c ≡ demosmp) }
 {
     let one = with_command(bare(alloc), file_command(alloc, "run", "boot", "schedule"))?;
-    let two = with_command(one, file_command(alloc, "check", "boot", "trace"))?;
+    let two = with_command(one, check_command(alloc))?;
     let three = with_command(two, file_command(alloc, "chart", "boot", "schedule"))?;
     let four = with_command(three, explain_command(alloc))?;
     let five = with_command(four, file_command(alloc, "count", "boot", "schedule"))?;
@@ -162,6 +167,15 @@ fn file_command<'a>(
 {
     let command = with_arg(Command::new(alloc, name), file(alloc, first))?;
     with_arg(command, file(alloc, second))
+}
+
+/// The command `check`.
+fn check_command<'a>(alloc: Global) -> Result<Command<'a>, NoMemory>
+    ensures { IfOk result (HasShape check_shape) }
+{
+    let check = with_arg(Command::new(alloc, "check"), file(alloc, "boot"))?;
+    let check = with_arg(check, free(alloc, "trace"))?;
+    with_arg(check, free(alloc, "labels"))
 }
 
 /// The command `explain`.
@@ -267,14 +281,31 @@ fn run_request<'a>(matches: &ArgMatches<'a>) -> Option<Request<'a>>
     Some(Request::Run { boot, schedule })
 }
 
-/// The two files that the matches of `check` name.
+/// The boot file that the matches of `check` name, and the trace or the labels: just one of them.
 fn check_request<'a>(matches: &ArgMatches<'a>) -> Option<Request<'a>>
     ensures asked { option_map request_said result ≡ check_asked (rows_of (found_of matches.now)) }
     ensures within { IfSome result IsInRange }
 {
-    let boot = matches.get_str("boot")?;
-    let trace = matches.get_str("trace")?;
-    Some(Request::Check { boot, trace })
+    match value(matches, "boot") {
+        Some(boot) => checking(boot, value(matches, "trace"), value(matches, "labels")),
+        None => None,
+    }
+}
+
+/// What is to be checked with a boot file: a trace or labels, just one of them.
+fn checking<'a>(
+    boot: &'a str,
+    trace: Option<&'a str>,
+    labels: Option<&'a str>,
+) -> Option<Request<'a>>
+    ensures asked { option_map request_said result ≡ checking (Some boot.now) (option_map (λ s. s.now) trace.entry) (option_map (λ s. s.now) labels.entry) }
+    ensures within { IfSome result IsInRange }
+{
+    match (trace, labels) {
+        (Some(trace), None) => Some(Request::Check { boot, trace }),
+        (None, Some(labels)) => Some(Request::CheckLabels { boot, labels }),
+        _ => None,
+    }
 }
 
 /// The two files that the matches of `chart` name.

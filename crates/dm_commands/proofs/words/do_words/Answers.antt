@@ -4,6 +4,7 @@ use Rattle.dm_words.proofs.Ranges.{asked_fits}
 use Rattle.dm_commands.proofs.Judging.{judge_taken}
 use Rattle.dm_commands.proofs.Meeting.{unread}
 use Rattle.dm_commands.proofs.Obeying.{check_taken, drill_taken, drilled_unread, explain_taken, no_request, run_taken}
+use Rattle.dm_commands.proofs.LabelOutcomes.{labels_taken}
 use Rattle.dm_commands.proofs.OwnDrilling.{own_taken}
 use Rattle.dm_commands.proofs.Silent.{silent}
 use Rattle.dm_commands.specs.Asked.{Nothing}
@@ -33,6 +34,14 @@ returns-in-Ok-Check-clause-meets g c =
 
 pub returns-in-Ok-Check-clause-refused : goal.returns-in-Ok-Check-clause-refused
 returns-in-Ok-Check-clause-refused g c = λ usage taken. check_taken (CheckSays traced_by_world) _ _ _ _ c.check_files.result (λ b bytes before after h. h) c.check_files.ensures.meets usage
+
+pub returns-in-Ok-CheckLabels-clause-meets : goal.returns-in-Ok-CheckLabels-clause-meets
+returns-in-Ok-CheckLabels-clause-meets g c =
+    let a = around (shelf_around g.F.Shelf.asked g.F.Shelf.told g.F.Shelf.faults g.F.Shelf.last_failed c.args.shelf.now c.check_label_files.new.shelf) (sink_around g.K.Sink.told g.K.Sink.faults g.K.Sink.last_failed c.args.out.now c.check_label_files.new.out) in
+    subst (λ (r : Option Request). CommandMeets of_world r a None c.check_label_files.result) (sym (c.in-Ok-CheckLabels.ensures.asks ∙ ap (λ (r : TheRequest). Some (request_said r)) c.in-Ok-CheckLabels.field-0-is)) c.check_label_files.ensures.meets
+
+pub returns-in-Ok-CheckLabels-clause-refused : goal.returns-in-Ok-CheckLabels-clause-refused
+returns-in-Ok-CheckLabels-clause-refused g c = λ usage taken. labels_taken _ _ _ _ c.check_label_files.result c.check_label_files.ensures.meets usage
 
 pub returns-in-Ok-Chart-clause-meets : goal.returns-in-Ok-Chart-clause-meets
 returns-in-Ok-Chart-clause-meets g c =
