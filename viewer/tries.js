@@ -119,6 +119,35 @@ function triesEnd(tried, must) {
     }
 }
 
+// The messages in a row of a card, as far as the page shows them.
+function rowOf(card, word) {
+    const row = [...(card?.children ?? [])].find((each) => each.querySelector(":scope > .word")?.textContent === word);
+    return [...(row?.querySelectorAll(".id") ?? [])].map((chip) => chip.dataset.what);
+}
+
+// What was held for a process that goes on stands first in the inbox there, in its order, and is held no more.
+function triesHeld(tried, must) {
+    const card = (m, pid) => [...tried.document.querySelectorAll(`#machines .machine[data-machine="${m}"] .process`)].find((each) => each.dataset.what === pid);
+    const inbox = (m) => rowOf(tried.document.querySelector(`#machines .machine[data-machine="${m}"]`), "inbox");
+    let group = 0;
+    let acts = 0;
+    for (const line of tried.document.getElementById("trace").textContent.split("\n")) {
+        const words = line.split(" ");
+        if (HEAD.test(line)) {
+            group += 1;
+            acts = words[1];
+        }
+        const pid = { "step 8": words[2], stays: words[1] }[words[0] === "step" ? `step ${words[1]}` : words[0]];
+        if (pid !== undefined) {
+            slide(tried, group - 1);
+            const held = rowOf(card(acts, pid), "held");
+            slide(tried, group);
+            must(held.every((id, place) => inbox(acts)[place] === id), `what was held for ${pid} stands in the inbox behind group ${group}`);
+            must(rowOf(card(acts, pid), "held").length === 0, `nothing is held for ${pid} behind group ${group}`);
+        }
+    }
+}
+
 // How many groups put a message.
 function groupsWithPut(lines) {
     let groups = 0;
@@ -195,7 +224,7 @@ function tries({ html, wrong }) {
         must(tried.faults.length === 0, `its scripts are at fault: ${tried.faults}`);
         must(check.classList.contains("agrees") || check.textContent.startsWith("no lines at the end"), check.textContent);
         if (tried.faults.length === 0) {
-            [triesKeys, triesBack, triesEnd, triesSearch, triesFollow].forEach((each) => each(tried, must));
+            [triesKeys, triesBack, triesEnd, triesHeld, triesSearch, triesFollow].forEach((each) => each(tried, must));
         }
         must(tried.faults.length === 0, `its scripts are at fault: ${tried.faults}`);
     }
