@@ -46,6 +46,9 @@ function triesKeys(tried, must) {
     must(at(tried) === Math.min(10, all), "shift and the right arrow go ten groups on");
     press(tried, "End");
     must(at(tried) === all, "End goes to the end");
+    press(tried, "ArrowLeft", true);
+    must(at(tried) === Math.max(0, all - 10), "shift and the left arrow go ten groups back");
+    press(tried, "End");
     press(tried, "ArrowRight");
     must(at(tried) === all, "there is nothing behind the end");
     press(tried, "Home");
@@ -56,6 +59,16 @@ function triesKeys(tried, must) {
     must(at(tried) === Math.floor(all / 2), "the slider goes where it is put");
     const shown = tried.document.querySelector("#lines .now .number");
     must(at(tried) === 0 || shown.textContent === String(at(tried)), "the lines shown are those of the group");
+}
+
+// The buttons that go from group to group.
+function triesButtons(tried, must) {
+    const all = count(tried);
+    for (const [id, from, to] of [["first", all, 0], ["last", 0, all], ["forward", 0, Math.min(1, all)], ["back", all, Math.max(0, all - 1)]]) {
+        slide(tried, from);
+        tried.document.getElementById(id).click();
+        must(at(tried) === to, `the button ${id} goes from group ${from} to ${to}`);
+    }
 }
 
 // Goes to a group by the slider.
@@ -148,6 +161,44 @@ function triesHeld(tried, must) {
     }
 }
 
+// What the lines up to a group say of the packets that are under way: the rows of the page, from pair to pair.
+function packetRows(lines, groups) {
+    const pairs = {};
+    const pairOf = (a, b) => (pairs[`${a} ${b}`] = pairs[`${a} ${b}`] ?? { order: 100 * a + Number(b), given: [], open: new Map(), taken: 0 });
+    let group = 0;
+    for (const [word, a, b, c, d, e] of lines.map((line) => line.split(" "))) {
+        group += HEAD.test(`${word} `);
+        if (group > groups || word === "final") {
+            break;
+        }
+        if (word === "put" && a !== b) {
+            pairOf(a, b).given.push(c);
+        } else if (word === "packet") {
+            pairOf(a, b).open.set(Number(c), [d, Number(e)]);
+        } else if (word === "deliver") {
+            pairOf(a, b).open.delete(Number(c));
+        } else if (word === "taken") {
+            pairOf(a, b).taken = Number(c) + 1;
+        }
+    }
+    const told = ({ given, open }) => [...open].sort(([x], [y]) => x - y).slice(0, LARGE)
+        .map(([number, [kind, n]]) => (kind === "ack" ? `packet ${number}: ${n} have come` : `packet ${number}: message ${n}, ${given[n]}`));
+    const rows = Object.entries(pairs).filter(([, { given, open, taken }]) => open.size > 0 || taken < given.length);
+    return rows.sort(([, x], [, y]) => x.order - y.order).map(([key, pair]) => [key.replace(" ", " to "), ...told(pair)].join(", "));
+}
+
+// The packets under way are those of the lines, pair by pair.
+function triesPackets(tried, must) {
+    const lines = tried.document.getElementById("trace").textContent.split("\n");
+    const all = count(tried);
+    for (const group of [Math.floor(all / 3), Math.floor(all / 2), all]) {
+        slide(tried, group);
+        const rows = [...tried.document.querySelectorAll("#packets .pair")];
+        const shown = rows.map((row) => [".from", ".packet"].flatMap((each) => [...row.querySelectorAll(each)].map((part) => part.textContent)).join(", "));
+        must(shown.join("\n") === packetRows(lines, group).join("\n"), `the packets under way behind group ${group} are those of the lines`);
+    }
+}
+
 // How many groups put a message.
 function groupsWithPut(lines) {
     let groups = 0;
@@ -179,8 +230,13 @@ function triesSearch(tried, must) {
         const first = at(tried);
         press(tried, "n");
         must((at(tried) > first) === (groupsWithPut(lines) > 1), "the next one stands behind it, where there is one");
+        const second = at(tried);
         press(tried, "p");
         must(at(tried) === first, "the one before it is the first");
+        tried.document.getElementById("next").click();
+        must(at(tried) === second, "the button next goes where n does");
+        tried.document.getElementById("previous").click();
+        must(at(tried) === first, "the button before goes where p does");
     }
     // only whole words are found
     press(tried, "Home");
@@ -209,6 +265,12 @@ function triesFollow(tried, must) {
     must(tried.document.getElementById("follow").value === what, "its name is told");
     press(tried, "Escape");
     must(tried.document.querySelectorAll(".followed").length === 0, "Escape lets it go");
+    const follow = tried.document.getElementById("follow");
+    follow.value = what;
+    follow.dispatchEvent(new tried.window.Event("change", { bubbles: true }));
+    must([...tried.document.querySelectorAll(".followed")].some((element) => element.dataset.what === what), "what is written there is followed");
+    tried.document.getElementById("unfollow").click();
+    must(tried.document.querySelectorAll(".followed").length === 0, "the button lets it go");
 }
 
 // What is wrong with a page, or nothing.
@@ -224,7 +286,7 @@ function tries({ html, wrong }) {
         must(tried.faults.length === 0, `its scripts are at fault: ${tried.faults}`);
         must(check.classList.contains("agrees") || check.textContent.startsWith("no lines at the end"), check.textContent);
         if (tried.faults.length === 0) {
-            [triesKeys, triesBack, triesEnd, triesHeld, triesSearch, triesFollow].forEach((each) => each(tried, must));
+            [triesKeys, triesButtons, triesBack, triesEnd, triesHeld, triesPackets, triesSearch, triesFollow].forEach((each) => each(tried, must));
         }
         must(tried.faults.length === 0, `its scripts are at fault: ${tried.faults}`);
     }
