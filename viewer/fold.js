@@ -136,10 +136,10 @@ function makeProcess(state, pid, at, status) {
     state.machines[at].known[pid] = { is: HERE };
 }
 
-// What was routed from one machine to another: each message, how many were taken and acknowledged, and the packets put.
+// What was routed from one machine to another: each message, how many were taken, and the packets put.
 function pairOf(state, a, b) {
     const key = `${a} ${b}`;
-    state.pairs[key] = state.pairs[key] ?? { given: [], taken: 0, acknowledged: 0, wire: [] };
+    state.pairs[key] = state.pairs[key] ?? { given: [], taken: 0, wire: [] };
     return state.pairs[key];
 }
 
@@ -257,6 +257,7 @@ const LINES = {
     here() {},
     nomove() {},
     stale() {},
+    acked() {},
     asked() {},
     answered() {},
     took() {},
@@ -318,10 +319,6 @@ const LINES = {
         const pair = pairOf(state, a, b);
         state.machines[Number(b)].inbox.push(pair.given[Number(number)]);
         pair.taken = Number(number) + 1;
-    },
-    acked(state, group, [, a, b, count]) {
-        const pair = pairOf(state, b, a);
-        pair.acknowledged = Math.max(pair.acknowledged, Number(count));
     },
     queued(state, group, [, id]) {
         state.processes[state.messages[id].to].queue.push(id);

@@ -199,6 +199,17 @@ function triesPackets(tried, must) {
     }
 }
 
+// Each machine that a line routes something from or to is shown.
+function triesMachines(tried, must) {
+    const shown = tried.document.querySelectorAll("#machines .machine").length;
+    for (const line of tried.document.getElementById("trace").textContent.split("\n")) {
+        const words = line.split(" ");
+        if (["put", "packet", "deliver"].includes(words[0])) {
+            must(Math.max(Number(words[1]), Number(words[2])) < shown, `the machines of ${line} are shown`);
+        }
+    }
+}
+
 // How many groups put a message.
 function groupsWithPut(lines) {
     let groups = 0;
@@ -286,7 +297,7 @@ function tries({ html, wrong }) {
         must(tried.faults.length === 0, `its scripts are at fault: ${tried.faults}`);
         must(check.classList.contains("agrees") || check.textContent.startsWith("no lines at the end"), check.textContent);
         if (tried.faults.length === 0) {
-            [triesKeys, triesButtons, triesBack, triesEnd, triesHeld, triesPackets, triesSearch, triesFollow].forEach((each) => each(tried, must));
+            [triesKeys, triesButtons, triesBack, triesEnd, triesHeld, triesMachines, triesPackets, triesSearch, triesFollow].forEach((each) => each(tried, must));
         }
         must(tried.faults.length === 0, `its scripts are at fault: ${tried.faults}`);
     }
