@@ -53,7 +53,7 @@ pub record TellsLine (bytes : List ℕ) (machines line why : ℕ) (first text : 
   pub fault : LineFault
   pub refused : directives_of bytes machines ≡ Refused line fault
   pub why_is : why ≡ number_of_fault fault
-  pub text_is : text ≡ first ++ line_told bytes line fault
+  pub text_is : text ≡ first ++ line_told bytes machines line fault
 
 -- how a run ends on a schedule before it runs, and what is said of it
 abbrev pub TellsLines : List ℕ → ℕ → List ℕ → Status → List ℕ → Type 0

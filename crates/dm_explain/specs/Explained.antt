@@ -62,7 +62,7 @@ ExplainsBoot bytes (boot.Refused rule place text) = TellsRefused bytes rule plac
 -- what is said of the bytes of a schedule
 abbrev pub ExplainsSchedule : List ℕ → ℕ → ScheduleTold → Type 0
 ExplainsSchedule bytes machines (schedule.Directives ds text) = (directives_of bytes machines ≡ Accepted ds.items) × (text.items ≡ directives_told ds.items)
-ExplainsSchedule bytes machines (schedule.Refused line fault text) = (directives_of bytes machines ≡ Refused line fault) × (text.items ≡ line_told bytes line fault)
+ExplainsSchedule bytes machines (schedule.Refused line fault text) = (directives_of bytes machines ≡ Refused line fault) × (text.items ≡ line_told bytes machines line fault)
 
 -- a system that is said may start
 abbrev pub IsToldValid : BootTold → Type 0

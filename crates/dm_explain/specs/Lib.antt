@@ -5,5 +5,6 @@ pub mod Faults
 pub mod Told
 pub mod System
 pub mod SystemParts
+pub mod BadOperands
 pub mod Schedules
 pub mod Explained

@@ -1,5 +1,5 @@
 -- What is said of a schedule.
-use Rattle.std.specs.Prelude.{ℕ, Bool, true, false, codes, List, [], ◌∷◌, length, count_by}
+use Rattle.std.specs.Prelude.{ℕ, Bool, true, false, codes, List, [], ◌∷◌, ◌++◌, length, count_by, Option, None, Some}
 use Rattle.std.specs.List.{concat}
 use Rattle.std.specs.Fmt.{decimal}
 use Rattle.dm_schedule.specs.declared.Directive.{Directive}
@@ -8,9 +8,11 @@ use Rattle.dm_schedule.specs.declared.Step.TheVariants as step
 use Rattle.dm_schedule.specs.declared.LineFault.{LineFault}
 use Rattle.dm_schedule.specs.declared.LineFault.TheVariants.{UnknownWord, WrongCount, NotANumber, OutOfRange, SameMachine}
 use Rattle.dm_reading.specs.Lines.{lines}
+use Rattle.dm_reading.specs.Words.{words}
 use Rattle.dm_schedule.specs.declared.keywords.Keyword.{Keyword}
 use Rattle.dm_schedule.specs.declared.keywords.Keyword.TheVariants.{Turn, Tick, Deliver, Migrate, CallOff, Round, Spin, Settle, Rest}
 use Rattle.dm_schedule.specs.Schedule.{Schedule, Accepted, Refused, number_of_fault}
+use Rattle.dm_explain.specs.BadOperands.{BadOperand, bad_operand, missing_words, operand_count_told, operand_told, range_words}
 use Rattle.dm_explain.specs.LineAt.{line_at}
 use Rattle.dm_explain.specs.Parts.{quoted}
 
@@ -71,18 +73,41 @@ directives_told ds =
     ∷ codes ", migrate " ∷ many Migrate ds ∷ codes ", calloff " ∷ many CallOff ds ∷ codes ", round " ∷ many Round ds ∷ codes ", spin " ∷ many Spin ds ∷ codes ", settle " ∷ many Settle ds
     ∷ codes ", rest " ∷ many Rest ds ∷ codes "\n" ∷ [])
 
-abbrev pub fault_words : LineFault → List ℕ
-fault_words UnknownWord = codes "no such word"
-fault_words WrongCount = codes "more or fewer operands than the word has"
-fault_words NotANumber = codes "a number or a process's name must stand where none stands"
-fault_words OutOfRange = codes "a number is out of range, or no machine's"
-fault_words SameMachine = codes "the two machines are one"
+-- words, and the line
+unfoldable pub said : List ℕ → List ℕ → List ℕ
+said text line = concat (text ∷ codes ": " ∷ quoted line ∷ [])
 
-abbrev pub line_told : List ℕ → ℕ → LineFault → List ℕ
-line_told bytes line fault =
-    concat (codes "schedule, line " ∷ decimal line ∷ codes ": why " ∷ decimal (number_of_fault fault) ∷ codes ": " ∷ fault_words fault ∷ codes ": " ∷ quoted (line_at line (lines bytes)) ∷ codes "\n" ∷ [])
+-- that an operand isn't there
+abbrev pub missing_told : Option BadOperand → List ℕ → List ℕ
+missing_told None line = []
+missing_told (Some b) line = said (missing_words b.operand) line ++ operand_told b
+
+-- in which range an operand must lie
+abbrev pub range_told : ℕ → Option BadOperand → List ℕ
+range_told machines None = []
+range_told machines (Some b) = operand_told b ++ range_words machines b.operand
+
+-- that there are more operands, or fewer
+abbrev pub count_told : List ℕ → List ℕ
+count_told line = said (codes "more or fewer operands than the word has") line ++ operand_count_told (words line)
+
+-- that an operand is out of its range
+abbrev pub outside_told : ℕ → List ℕ → List ℕ
+outside_told machines line = said (codes "a number is out of range, or no machine's") line ++ range_told machines (bad_operand machines (words line))
+
+-- what is wrong with a line, for so many machines
+abbrev pub fault_told : ℕ → LineFault → List ℕ → List ℕ
+fault_told machines UnknownWord line = said (codes "no such word") line
+fault_told machines WrongCount line = count_told line
+fault_told machines NotANumber line = missing_told (bad_operand machines (words line)) line
+fault_told machines OutOfRange line = outside_told machines line
+fault_told machines SameMachine line = said (codes "the two machines are one") line
+
+abbrev pub line_told : List ℕ → ℕ → ℕ → LineFault → List ℕ
+line_told bytes machines line fault =
+    concat (codes "schedule, line " ∷ decimal line ∷ codes ": why " ∷ decimal (number_of_fault fault) ∷ codes ": " ∷ []) ++ fault_told machines fault (line_at line (lines bytes)) ++ codes "\n"
 
 -- a schedule, or its first bad line
-abbrev pub schedule_told : List ℕ → Schedule → List ℕ
-schedule_told bytes (Accepted ds) = directives_told ds
-schedule_told bytes (Refused line fault) = line_told bytes line fault
+abbrev pub schedule_told : List ℕ → ℕ → Schedule → List ℕ
+schedule_told bytes machines (Accepted ds) = directives_told ds
+schedule_told bytes machines (Refused line fault) = line_told bytes machines line fault

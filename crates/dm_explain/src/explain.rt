@@ -184,7 +184,7 @@ pub fn explain_schedule(alloc: Global, bytes: &[u8], machines: u8) -> Result<Sch
             Ok(ScheduleTold::Directives { directives, text })
         }
         Err(ScheduleError::Refused { line, fault }) => {
-            put_line(&mut text, bytes, line, fault)?;
+            put_line(&mut text, bytes, machines, line, fault)?;
             Ok(ScheduleTold::Refused { line, fault, text })
         }
         Err(ScheduleError::NoMemory(no)) => Err(no),

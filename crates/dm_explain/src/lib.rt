@@ -10,5 +10,6 @@ mod system;
 mod system_parts;
 mod told;
 mod wanted;
+mod wrong;
 
 pub use explain::{BootTold, ScheduleTold, explain_boot, explain_schedule};

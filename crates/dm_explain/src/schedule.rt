@@ -1,10 +1,16 @@
 //! What is said of a schedule.
-ghost use Rattle.std.specs.Prelude.{◌≡◌, ◌≤◌, ◌++◌, OnOk, count_by, length};
-ghost use Rattle.dm_explain.specs.Schedules.{directives_told, fault_words, is_of, line_told};
+ghost use Rattle.std.specs.Prelude.{◌≡◌, ◌∷◌, ◌++◌, [], OnOk, codes, count_by, option_map};
+ghost use Rattle.std.specs.Fmt.{decimal};
+ghost use Rattle.std.specs.List.{concat};
+ghost use Rattle.dm_reading.specs.Words.{words};
+ghost use Rattle.dm_explain.specs.BadOperands.{bad_of, count_words_told, operand_count_told, operand_of, operand_told, range_words};
+ghost use Rattle.dm_explain.specs.Schedules.{count_told, directives_told, fault_told, is_of, line_told, missing_told, outside_told, range_told, said};
 
 use crate::line::schedule_line;
-use crate::part::{Part, put_parts};
+use crate::part::{Part, put, put_parts};
+use crate::wrong::{Bad, Role, bad_operand, operand_count};
 use dm_memory::NoMemory;
+use dm_reading::{Gap, count_words, next_word};
 use dm_schedule::{Directive, Keyword, LineFault, Step};
 
 /// Writes how many directives there are, by word.
@@ -69,14 +75,16 @@ fn is_of(keyword: Keyword, directive: &Directive) -> bool
     }
 }
 
-/// Writes which line of a schedule is refused, and why.
+/// Writes which line of a schedule for so many machines is refused, and why.
+#[tactic(auto, using(crate::proofs::Pieces::join_lemmas))]
 pub fn put_line(
     into: &mut Vec<u8>,
     bytes: &[u8],
+    machines: u8,
     line: u64,
     fault: LineFault,
 ) -> Result<(), NoMemory>
-    ensures { OnOk result (into.new.items ≡ into.old.items ++ line_told bytes.now line fault) }
+    ensures { OnOk result (into.new.items ≡ into.old.items ++ line_told bytes.now machines line fault) }
 {
     put_parts(
         into,
@@ -86,23 +94,168 @@ pub fn put_line(
             Part::Text(": why "),
             Part::Count(u64::from(fault.number())),
             Part::Text(": "),
-            Part::Text(fault_words(fault)),
-            Part::Text(": "),
-            Part::Line(schedule_line(bytes, line)),
-            Part::Text("\n"),
+        ],
+    )?;
+    put_fault(into, machines, fault, schedule_line(bytes, line))?;
+    put(into, "\n")
+}
+
+/// Writes what is wrong with a line.
+fn put_fault(
+    into: &mut Vec<u8>,
+    machines: u8,
+    fault: LineFault,
+    line: &[u8],
+) -> Result<(), NoMemory>
+    ensures { OnOk result (into.new.items ≡ into.old.items ++ fault_told machines fault line.now) }
+{
+    match fault {
+        LineFault::UnknownWord => put_said(into, "no such word", line),
+        LineFault::WrongCount => put_wrong_count(into, line),
+        LineFault::NotANumber => put_missing(into, bad_operand(machines, line), line),
+        LineFault::OutOfRange => put_out_of_range(into, machines, line),
+        LineFault::SameMachine => put_said(into, "the two machines are one", line),
+    }
+}
+
+/// Writes that a word has another number of operands.
+#[tactic(auto, using(crate::proofs::Pieces::join_lemmas))]
+fn put_wrong_count(into: &mut Vec<u8>, line: &[u8]) -> Result<(), NoMemory>
+    ensures { OnOk result (into.new.items ≡ into.old.items ++ count_told line.now) }
+{
+    put_said(into, "more or fewer operands than the word has", line)?;
+    put_count(into, line)
+}
+
+/// Writes that an operand is out of its range.
+#[tactic(auto, using(crate::proofs::Pieces::join_lemmas))]
+fn put_out_of_range(into: &mut Vec<u8>, machines: u8, line: &[u8]) -> Result<(), NoMemory>
+    ensures { OnOk result (into.new.items ≡ into.old.items ++ outside_told machines line.now) }
+{
+    put_said(into, "a number is out of range, or no machine's", line)?;
+    put_range(into, machines, bad_operand(machines, line))
+}
+
+/// Writes words, and the line.
+#[tactic(auto, unfolding(crate::specs::Schedules::said))]
+fn put_said(into: &mut Vec<u8>, text: &'static str, line: &[u8]) -> Result<(), NoMemory>
+    ensures { OnOk result (into.new.items ≡ into.old.items ++ said text.now line.now) }
+{
+    put_parts(
+        into,
+        &[Part::Text(text), Part::Text(": "), Part::Line(line)],
+    )
+}
+
+/// Writes which operand it is.
+#[tactic(auto, unfolding(crate::specs::BadOperands::operand_told))]
+fn put_operand(into: &mut Vec<u8>, bad: &Bad) -> Result<(), NoMemory>
+    ensures { OnOk result (into.new.items ≡ into.old.items ++ operand_told (bad_of bad.now)) }
+{
+    put_parts(
+        into,
+        &[
+            Part::Text(": operand "),
+            Part::Count(bad.place),
+            Part::Text(", "),
+            Part::Line(bad.word),
         ],
     )
 }
 
-/// What is wrong with a line, in words.
-fn fault_words(fault: LineFault) -> &'static str
-    ensures { result.now ≡ fault_words fault }
+/// Writes what must stand where an operand is.
+#[tactic(auto, using(crate::proofs::Pieces::join_lemmas))]
+fn put_missing(into: &mut Vec<u8>, bad: Option<Bad<'_>>, line: &[u8]) -> Result<(), NoMemory>
+    ensures { OnOk result (into.new.items ≡ into.old.items ++ missing_told (option_map bad_of bad.entry) line.now) }
 {
-    match fault {
-        LineFault::UnknownWord => "no such word",
-        LineFault::WrongCount => "more or fewer operands than the word has",
-        LineFault::NotANumber => "a number or a process's name must stand where none stands",
-        LineFault::OutOfRange => "a number is out of range, or no machine's",
-        LineFault::SameMachine => "the two machines are one",
+    match bad {
+        Some(bad) => {
+            put_said(into, bad.role.missing_words(), line)?;
+            put_operand(into, &bad)
+        }
+        None => Ok(()),
     }
+}
+
+/// Writes in which range an operand must lie.
+#[tactic(auto, using(crate::proofs::Pieces::join_lemmas))]
+fn put_range(into: &mut Vec<u8>, machines: u8, bad: Option<Bad<'_>>) -> Result<(), NoMemory>
+    ensures { OnOk result (into.new.items ≡ into.old.items ++ range_told machines (option_map bad_of bad.entry)) }
+{
+    match bad {
+        Some(bad) => {
+            put_operand(into, &bad)?;
+            put_limits(into, machines, bad.role)
+        }
+        None => Ok(()),
+    }
+}
+
+/// Writes the range of an operand.
+fn put_limits(into: &mut Vec<u8>, machines: u8, role: Role) -> Result<(), NoMemory>
+    ensures { OnOk result (into.new.items ≡ into.old.items ++ range_words machines (operand_of role)) }
+{
+    let last = u64::from(machines.saturating_sub(1));
+    match role {
+        Role::Machine => put_machine_range(into, last),
+        Role::Process => put_process_range(into, last),
+        Role::Packet => put(into, ", must be 0 to 4294967295"),
+        Role::Rounds => put(into, ", must be 1 to 65536"),
+    }
+}
+
+/// Writes the range of a machine, by the last that there is.
+fn put_machine_range(into: &mut Vec<u8>, last: u64) -> Result<(), NoMemory>
+    ensures { OnOk result (into.new.items ≡ into.old.items ++ concat (codes ", must be 0 to " ∷ decimal last ∷ [])) }
+{
+    put_parts(into, &[Part::Text(", must be 0 to "), Part::Count(last)])
+}
+
+/// Writes the range of a process, by the last machine that there is.
+fn put_process_range(into: &mut Vec<u8>, last: u64) -> Result<(), NoMemory>
+    ensures { OnOk result (into.new.items ≡ into.old.items ++
+        concat (codes ", must be H.N with H 0 to " ∷ decimal last ∷ codes " and N 0 to 4294967295" ∷ [])) }
+{
+    put_parts(
+        into,
+        &[
+            Part::Text(", must be H.N with H 0 to "),
+            Part::Count(last),
+            Part::Text(" and N 0 to 4294967295"),
+        ],
+    )
+}
+
+/// Writes how many operands the word of a line has, and how many stand there.
+#[tactic(auto, unfolding(crate::specs::BadOperands::operand_count_told))]
+fn put_count(into: &mut Vec<u8>, line: &[u8]) -> Result<(), NoMemory>
+    ensures { OnOk result (into.new.items ≡ into.old.items ++ operand_count_told (words line.now)) }
+{
+    match next_word(line, Gap::Blanks) {
+        None => Ok(()),
+        Some((word, rest)) => match Keyword::from_word(word) {
+            None => Ok(()),
+            Some(keyword) => put_counts(
+                into,
+                operand_count(keyword),
+                count_words(rest, Gap::Blanks) as u64,
+            ),
+        },
+    }
+}
+
+/// Writes how many operands a word has, and how many stand there.
+#[tactic(auto, unfolding(crate::specs::BadOperands::count_words_told))]
+fn put_counts(into: &mut Vec<u8>, due: u64, there: u64) -> Result<(), NoMemory>
+    ensures { OnOk result (into.new.items ≡ into.old.items ++ count_words_told due there) }
+{
+    put_parts(
+        into,
+        &[
+            Part::Text(": the word has "),
+            Part::Count(due),
+            Part::Text(", not "),
+            Part::Count(there),
+        ],
+    )
 }
