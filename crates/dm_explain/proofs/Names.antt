@@ -8,8 +8,11 @@ pub use Rattle.dm_schedule.proofs.Names.{append-nil, append_assoc, codes, if◌t
 pub use Rattle.dm_process.proofs.Names.{slice_get}
 pub use Rattle.dm_boot.proofs.Imports.{Data, Value, drop_more, drop_of_length-le, first_failing, get_item, items_view, view}
 pub use Rattle.dm_boot.specs.Tables.{has_only}
-pub use Rattle.dm_explain.specs.Faults.{is_met, is_within, keys_text, wish_told}
-unfoldable pub use Rattle.dm_explain.specs.Faults.{first_bad, key_fault, limit_told, number_fault, wish_fault}
+pub use Rattle.dm_reading.specs.Words.{source_words}
+unfoldable pub use Rattle.dm_explain.specs.BadSources.{bad_word, is_fine}
+pub use Rattle.dm_explain.specs.BadSources.{BadWord}
+pub use Rattle.dm_explain.specs.Faults.{is_met, is_within, keys_text}
+unfoldable pub use Rattle.dm_explain.specs.Faults.{first_bad, key_fault, limit_told, number_fault, wish_fault, wish_told}
 pub use Rattle.dm_explain.specs.LineAt.{line_at, line_or_nothing}
 pub use Rattle.dm_explain.specs.Parts.{part_text, shown_byte}
 pub use Rattle.dm_explain.specs.Schedules.{is_of}

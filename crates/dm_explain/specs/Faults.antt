@@ -29,12 +29,17 @@ unfoldable pub first_bad : {W : Type 0} → (W → Bool) → (W → List ℕ) �
 first_bad good told other [] = other
 first_bad good told other (w ∷ ws) = if good w then first_bad good told other ws else told w
 
-unfoldable pub wish_told : Wish → List ℕ
-wish_told w = concat (w.key ∷ codes " must be " ∷ sort_words w.sort ∷ [])
+-- a key that isn't there
+abbrev pub absence_told : Option Data → List ℕ
+absence_told None = codes ", and it is missing"
+absence_told (Some d) = []
+
+unfoldable pub wish_told : Wish → Data → List ℕ
+wish_told w d = concat (w.key ∷ codes " must be " ∷ sort_words w.sort ∷ []) ++ absence_told (get w.key d)
 
 -- the first wish that isn't met, or something else
 unfoldable pub wish_fault : List Wish → List ℕ → Data → List ℕ
-wish_fault ws other d = first_bad (λ w. is_met w d) wish_told other ws
+wish_fault ws other d = first_bad (λ w. is_met w d) (λ w. wish_told w d) other ws
 
 -- the keys, each behind a space
 abbrev pub keys_text : List Wish → List ℕ

@@ -2,6 +2,7 @@ pub mod Parts
 pub mod LineAt
 pub mod Wanted
 pub mod Faults
+pub mod BadSources
 pub mod Told
 pub mod System
 pub mod SystemParts

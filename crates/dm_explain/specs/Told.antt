@@ -4,7 +4,6 @@ use Rattle.std.specs.List.{concat}
 use Rattle.std.specs.Fmt.{decimal}
 use Rattle.toml.specs.Data.{Data, get_item}
 use Rattle.dm_asm.specs.declared.refusals.Why.{Why}
-use Rattle.dm_asm.specs.declared.refusals.Why.TheVariants.{UnknownWord, BadRegister, BadNumber, OutOfRange, UnknownLabel, LabelTwice, OperandCount, TooLong}
 use Rattle.dm_asm.specs.Assembled.{assembled}
 use Rattle.dm_reading.specs.Lines.{source_lines}
 use Rattle.dm_onekernel.specs.Boot.{slots_of}
@@ -16,6 +15,7 @@ use Rattle.dm_boot.specs.Tables.{count, first_failing, text_at}
 use Rattle.dm_boot.specs.Text.{is_boot_name, is_server_name}
 use Rattle.dm_explain.specs.declared.told.links.LinkRule.{LinkRule}
 use Rattle.dm_explain.specs.declared.told.links.LinkRule.TheVariants as link
+use Rattle.dm_explain.specs.BadSources.{refused_told, source_of}
 use Rattle.dm_explain.specs.Faults.{integer_at, key_fault, number_fault}
 use Rattle.dm_explain.specs.LineAt.{line_at}
 use Rattle.dm_explain.specs.Parts.{integer_text, quoted}
@@ -64,21 +64,14 @@ image_name_words name = if is_boot_name name then codes " is an earlier image's 
 abbrev pub process_name_words : List ℕ → List ℕ
 process_name_words name = if is_boot_name name then (if is_server_name name then codes " is a server's name" else codes " is an earlier process's name") else no_name
 
--- why a line of an image's text is refused
-abbrev pub why_words : Why → List ℕ
-why_words UnknownWord = codes "no such word"
-why_words BadRegister = codes "a register must stand where none stands"
-why_words BadNumber = codes "a number or label must stand where none stands"
-why_words OutOfRange = codes "a number is out of range"
-why_words UnknownLabel = codes "no line has this label"
-why_words LabelTwice = codes "an earlier line has this label"
-why_words OperandCount = codes "more or fewer operands than the word has"
-why_words TooLong = codes "the image has more than 65536 bytes with this line"
+-- a line of an image's text is refused
+abbrev pub line_told : Data → ℕ → Why → List ℕ → List ℕ
+line_told t number why line = concat (codes "image " ∷ quoted (name_at t) ∷ codes ", line " ∷ decimal number ∷ codes ": " ∷ []) ++ refused_told why (source_of line) line
 
 abbrev pub text_told : Data → List ℕ → Result (List ℕ) (ℕ × Why) → List ℕ
 text_told t text (Ok bytes) = []
 text_told t text (Err refused) =
-    concat (codes "image " ∷ quoted (name_at t) ∷ codes ", line " ∷ decimal refused.0 ∷ codes ": " ∷ why_words refused.1 ∷ codes ": " ∷ quoted (line_at refused.0 (source_lines text)) ∷ [])
+    line_told t refused.0 refused.1 (line_at refused.0 (source_lines text))
 
 abbrev pub bytes_told : Data → Result (List ℕ) (ℕ × Why) → List ℕ
 bytes_told t (Ok bytes) =

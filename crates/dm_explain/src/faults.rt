@@ -1,9 +1,10 @@
 //! What is wrong with the keys and the numbers of a table.
 ghost use Rattle.std.specs.Prelude.{◌≡◌, ◌++◌, OnOk, map};
 ghost use Rattle.std.specs.List.{concat};
+ghost use Rattle.toml.specs.Data.{get};
 ghost use Rattle.toml.specs.View.{view};
 ghost use Rattle.dm_boot.specs.Tables.{has_only};
-ghost use Rattle.dm_explain.specs.Faults.{integer_at, is_met, is_sort, is_within, key_fault, keys_text, limit_told, number_fault, wish_fault, wish_told};
+ghost use Rattle.dm_explain.specs.Faults.{absence_told, integer_at, is_met, is_sort, is_within, key_fault, keys_text, limit_told, number_fault, wish_fault, wish_told};
 ghost use Rattle.dm_explain.specs.Parts.{part_text};
 ghost use Rattle.dm_explain.specs.Wanted.{limit_of, wish_of};
 
@@ -45,16 +46,15 @@ fn put_wish_fault(
 {
     for key in keys {
         if !is_met(key, table) {
-            return put_wish(into, key);
+            return put_wish(into, key, table);
         }
     }
     put(into, other)
 }
 
-/// Writes what a key must be.
-#[tactic(auto, unfolding(crate::specs::Faults::wish_told))]
-fn put_wish(into: &mut Vec<u8>, key: &Key) -> Result<(), NoMemory>
-    ensures { OnOk result (into.new.items ≡ into.old.items ++ wish_told (wish_of key.now)) }
+/// Writes what a key must be, and whether it is missing.
+fn put_wish(into: &mut Vec<u8>, key: &Key, table: &Value) -> Result<(), NoMemory>
+    ensures { OnOk result (into.new.items ≡ into.old.items ++ wish_told (wish_of key.now) (view table.now)) }
 {
     put_parts(
         into,
@@ -63,7 +63,18 @@ fn put_wish(into: &mut Vec<u8>, key: &Key) -> Result<(), NoMemory>
             Part::Text(" must be "),
             Part::Text(key.sort.words()),
         ],
-    )
+    )?;
+    put_absence(into, key, table)
+}
+
+/// Writes that a key is missing, where it is.
+fn put_absence(into: &mut Vec<u8>, key: &Key, table: &Value) -> Result<(), NoMemory>
+    ensures { OnOk result (into.new.items ≡ into.old.items ++ absence_told (get key.now.name.now (view table.now))) }
+{
+    match table.get(key.name) {
+        Some(_) => Ok(()),
+        None => put(into, ", and it is missing"),
+    }
 }
 
 /// Whether a key has what it must be.

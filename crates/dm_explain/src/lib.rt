@@ -6,6 +6,7 @@ mod faults;
 mod line;
 mod part;
 mod schedule;
+mod source;
 mod system;
 mod system_parts;
 mod told;

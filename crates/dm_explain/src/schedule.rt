@@ -138,7 +138,7 @@ fn put_out_of_range(into: &mut Vec<u8>, machines: u8, line: &[u8]) -> Result<(),
 
 /// Writes words, and the line.
 #[tactic(auto, unfolding(crate::specs::Schedules::said))]
-fn put_said(into: &mut Vec<u8>, text: &'static str, line: &[u8]) -> Result<(), NoMemory>
+pub fn put_said(into: &mut Vec<u8>, text: &'static str, line: &[u8]) -> Result<(), NoMemory>
     ensures { OnOk result (into.new.items ≡ into.old.items ++ said text.now line.now) }
 {
     put_parts(
@@ -246,7 +246,7 @@ fn put_count(into: &mut Vec<u8>, line: &[u8]) -> Result<(), NoMemory>
 
 /// Writes how many operands a word has, and how many stand there.
 #[tactic(auto, unfolding(crate::specs::BadOperands::count_words_told))]
-fn put_counts(into: &mut Vec<u8>, due: u64, there: u64) -> Result<(), NoMemory>
+pub fn put_counts(into: &mut Vec<u8>, due: u64, there: u64) -> Result<(), NoMemory>
     ensures { OnOk result (into.new.items ≡ into.old.items ++ count_words_told due there) }
 {
     put_parts(

@@ -3,12 +3,13 @@ ghost use Rattle.std.specs.Prelude.{◌≡◌, ◌++◌, Err, Ok, OnOk, codes};
 ghost use Rattle.toml.specs.View.{view};
 ghost use Rattle.dm_asm.specs.Assembled.{assembled};
 ghost use Rattle.dm_boot.specs.Tables.{text_at};
-ghost use Rattle.dm_explain.specs.Told.{bytes_told, image_name_words, image_rule_told, machine_rule_told, text_told, why_words};
+ghost use Rattle.dm_explain.specs.Told.{bytes_told, image_name_words, image_rule_told, machine_rule_told, text_told};
 
 use crate::faults::{integer_at, put_key_fault, put_number_fault};
 use crate::line::text_line;
 use crate::part::{Part, put_parts};
 use crate::told::elements::{put_name, put_numbered, put_titled};
+use crate::told::refused::put_refused;
 use crate::wanted::{image_keys, image_ranges, machine_keys, machine_ranges};
 use dm_asm::{AssembleError, Image, Why, assemble};
 use dm_boot::BootRule;
@@ -94,6 +95,7 @@ fn put_text(alloc: Global, into: &mut Vec<u8>, image: &Value) -> Result<(), NoMe
 }
 
 /// Writes that a line of an image's text is refused.
+#[tactic(auto, using(crate::proofs::Pieces::join_lemmas))]
 fn put_line<'a>(
     into: &mut Vec<u8>,
     image: &'a Value,
@@ -111,27 +113,9 @@ fn put_line<'a>(
             Part::Text(", line "),
             Part::Count(line as u64),
             Part::Text(": "),
-            Part::Text(why_words(why)),
-            Part::Text(": "),
-            Part::Line(text_line(text.as_bytes(), line)),
         ],
-    )
-}
-
-/// Why a line is refused, in words.
-fn why_words(why: Why) -> &'static str
-    ensures { result.now ≡ why_words why }
-{
-    match why {
-        Why::UnknownWord => "no such word",
-        Why::BadRegister => "a register must stand where none stands",
-        Why::BadNumber => "a number or label must stand where none stands",
-        Why::OutOfRange => "a number is out of range",
-        Why::UnknownLabel => "no line has this label",
-        Why::LabelTwice => "an earlier line has this label",
-        Why::OperandCount => "more or fewer operands than the word has",
-        Why::TooLong => "the image has more than 65536 bytes with this line",
-    }
+    )?;
+    put_refused(into, why, text_line(text.as_bytes(), line))
 }
 
 /// Writes how many bytes an image's text makes, and for how many there is room.

@@ -8,6 +8,7 @@ mod images;
 mod keys;
 mod links;
 mod processes;
+mod refused;
 
 use crate::part::{Part, put, put_parts};
 use dm_boot::BootRule;

@@ -1,0 +1,174 @@
+-- Which operand of a line of an image's text is refused, and what it must be.
+use Rattle.std.specs.Prelude.{ℕ, ◌+◌, nat_le, Bool, true, false, if◌then◌else◌, codes, List, [], ◌∷◌, ◌++◌, Option, None, Some, Result, Ok, Err, length}
+use Rattle.std.specs.Option.{is_some, option_map}
+use Rattle.std.specs.List.{concat}
+use Rattle.std.specs.Fmt.{decimal}
+use Rattle.dm_reading.specs.Words.{source_words}
+use Rattle.dm_asm.specs.declared.forms.Form.{Form}
+use Rattle.dm_asm.specs.declared.forms.Form.TheVariants.{Instruction, Word, Byte, Zero}
+use Rattle.dm_asm.specs.declared.forms.Shape.{Shape}
+use Rattle.dm_asm.specs.declared.forms.Shape.TheVariants.{RegisterValue, TwoRegisters, ThreeRegisters, Access, Jump, Branch, Call}
+use Rattle.dm_asm.specs.declared.refusals.Why.{Why}
+use Rattle.dm_asm.specs.declared.refusals.Why.TheVariants.{UnknownWord, BadRegister, BadNumber, OutOfRange, UnknownLabel, LabelTwice, OperandCount, TooLong}
+use Rattle.dm_asm.specs.Forms.{form_of, shape_of}
+use Rattle.dm_asm.specs.Lines.{without_comment}
+use Rattle.dm_asm.specs.Numbers.{literal_value, register_of}
+use Rattle.dm_asm.specs.Operands.{wanted_number}
+use Rattle.dm_explain.specs.declared.source.Last.{Last}
+use Rattle.dm_explain.specs.declared.source.Last.TheVariants as last
+use Rattle.dm_explain.specs.declared.source.Takes.{Takes}
+use Rattle.dm_explain.specs.declared.source.Statement.{Statement}
+use Rattle.dm_explain.specs.declared.source.Wrong.{Wrong}
+use Rattle.dm_explain.specs.BadOperands.{count_words_told}
+use Rattle.dm_explain.specs.Parts.{quoted}
+use Rattle.dm_explain.specs.Schedules.{said}
+
+-- so many registers, and what stands behind them
+abbrev pub takes : ℕ → Last → Takes
+takes n l = record { registers = n; last = l }
+
+-- the operands of an instruction
+abbrev pub shape_takes : Shape → Takes
+shape_takes RegisterValue = takes 1 (last.Value 65535)
+shape_takes TwoRegisters = takes 2 last.Nothing
+shape_takes ThreeRegisters = takes 3 last.Nothing
+shape_takes Access = takes 2 (last.Number 255)
+shape_takes Jump = takes 0 (last.Value 65535)
+shape_takes Branch = takes 2 last.Label
+shape_takes Call = takes 0 (last.Number 255)
+
+-- the operands of an instruction or directive
+abbrev pub takes_of : Form → Takes
+takes_of (Instruction op) = shape_takes (shape_of op)
+takes_of Word = takes 0 (last.Value 4294967295)
+takes_of Byte = takes 0 last.Bytes
+takes_of Zero = takes 0 (last.Number 65536)
+
+-- the same of a word, where it is one
+unfoldable pub takes_named : List ℕ → Option Takes
+takes_named w = option_map takes_of (form_of w)
+
+-- an instruction or directive: what it takes, and the words behind it; it stands first, or behind a label
+pub record Source : Type 0 where
+  pub takes : Takes
+  pub operands : List (List ℕ)
+
+abbrev pub source : List (List ℕ) → Takes → Source
+source ws t = record { takes = t; operands = ws }
+
+abbrev pub source_behind : List (List ℕ) → Option Source
+source_behind [] = None
+source_behind (w ∷ ws) = option_map (source ws) (takes_named w)
+
+abbrev pub source_or_behind : List (List ℕ) → Option Takes → Option Source
+source_or_behind ws (Some t) = Some (source ws t)
+source_or_behind ws None = source_behind ws
+
+abbrev pub source_in : List (List ℕ) → Option Source
+source_in [] = None
+source_in (w ∷ ws) = source_or_behind ws (takes_named w)
+
+unfoldable pub source_of : List ℕ → Option Source
+source_of line = source_in (source_words (without_comment line))
+
+abbrev pub seen : Statement → Source
+seen s = source (source_words s.operands.now) s.takes
+
+-- an operand that is refused: its place, from 1, and its word
+pub record BadWord : Type 0 where
+  pub place : ℕ
+  pub word : List ℕ
+
+abbrev pub bad_word_of : Wrong → BadWord
+bad_word_of b = record { place = b.place; word = b.word.now }
+
+abbrev pub has_value : Result ℕ Why → Bool
+has_value (Ok n) = true
+has_value (Err why) = false
+
+-- an operand behind the registers can't be the one that is refused: only one of several bytes can
+abbrev pub is_fine_last : Last → List ℕ → Bool
+is_fine_last last.Bytes w = has_value (wanted_number 255 (literal_value w))
+is_fine_last _ w = false
+
+-- the operand at a place isn't the one that is refused
+unfoldable pub is_fine : Takes → ℕ → List ℕ → Bool
+is_fine t i w = if nat_le i t.registers then is_some (register_of w) else is_fine_last t.last w
+
+-- the first, from a place on, that is
+unfoldable pub bad_word : Takes → ℕ → List (List ℕ) → Option BadWord
+bad_word t i [] = None
+bad_word t i (w ∷ ws) = if is_fine t i w then bad_word t (i + 1) ws else Some (record { place = i; word = w })
+
+-- what must stand where a number or a label is refused
+abbrev pub missing_value_words : Last → List ℕ
+missing_value_words last.Label = codes "a label must stand where none stands"
+missing_value_words (last.Number n) = codes "a number must stand where none stands"
+missing_value_words last.Bytes = codes "a number must stand where none stands"
+missing_value_words (last.Value n) = codes "a number or label must stand where none stands"
+missing_value_words last.Nothing = codes "a number or label must stand where none stands"
+
+-- which operand it is
+abbrev pub bad_word_told : Option BadWord → List ℕ
+bad_word_told None = []
+bad_word_told (Some b) = concat (codes ": operand " ∷ decimal b.place ∷ codes ", " ∷ quoted b.word ∷ [])
+
+abbrev pub which_told : Source → List ℕ
+which_told s = bad_word_told (bad_word s.takes 1 s.operands)
+
+-- the most that a number may be
+abbrev pub most_told : ℕ → List ℕ
+most_told n = concat (codes ", must be 0 to " ∷ decimal n ∷ [])
+
+-- the range in which it must lie
+abbrev pub last_range : Last → List ℕ
+last_range last.Nothing = []
+last_range (last.Number n) = most_told n
+last_range (last.Value n) = most_told n
+last_range last.Bytes = codes ", must be 0 to 255"
+last_range last.Label = codes ", must be -128 to 127 whole words from the next instruction"
+
+-- bytes must be listed
+abbrev pub bytes_due : ℕ → List ℕ
+bytes_due there = concat (codes ": the word has 1 or more, not " ∷ decimal there ∷ [])
+
+-- how many operands there must be, and how many there are
+abbrev pub due_behind : ℕ → Last → ℕ → List ℕ
+due_behind n last.Nothing there = count_words_told n there
+due_behind n last.Bytes there = bytes_due there
+due_behind n _ there = count_words_told (n + 1) there
+
+abbrev pub due_told : Takes → ℕ → List ℕ
+due_told t there = due_behind t.registers t.last there
+
+-- what is said behind a line
+abbrev pub detail_told : Why → Source → List ℕ
+detail_told BadRegister s = which_told s ++ codes ", must be r0 to r15"
+detail_told BadNumber s = which_told s
+detail_told OutOfRange s = which_told s ++ last_range s.takes.last
+detail_told UnknownLabel s = which_told s
+detail_told OperandCount s = due_told s.takes (length s.operands)
+detail_told _ s = []
+
+abbrev pub detail : Why → Option Source → List ℕ
+detail why None = []
+detail why (Some s) = detail_told why s
+
+abbrev pub last_of : Option Source → Last
+last_of None = last.Nothing
+last_of (Some s) = s.takes.last
+
+-- why a line of an image's text is refused
+abbrev pub why_words : Why → Option Source → List ℕ
+why_words UnknownWord s = codes "no such word"
+why_words BadRegister s = codes "a register must stand where none stands"
+why_words BadNumber s = missing_value_words (last_of s)
+why_words OutOfRange s = codes "a number is out of range"
+why_words UnknownLabel s = codes "no line has this label"
+why_words LabelTwice s = codes "an earlier line has this label"
+why_words OperandCount s = codes "more or fewer operands than the word has"
+why_words TooLong s = codes "the image has more than 65536 bytes with this line"
+
+-- a line that is refused, and what is wrong there
+abbrev pub refused_told : Why → Option Source → List ℕ → List ℕ
+refused_told why s line = said (why_words why s) line ++ detail why s
