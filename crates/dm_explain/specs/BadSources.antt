@@ -89,7 +89,10 @@ has_value (Err why) = false
 -- an operand behind the registers can't be the one that is refused: only one of several bytes can
 abbrev pub is_fine_last : Last → List ℕ → Bool
 is_fine_last last.Bytes w = has_value (wanted_number 255 (literal_value w))
-is_fine_last _ w = false
+is_fine_last last.Nothing w = false
+is_fine_last (last.Number n) w = false
+is_fine_last (last.Value n) w = false
+is_fine_last last.Label w = false
 
 -- the operand at a place isn't the one that is refused
 unfoldable pub is_fine : Takes → ℕ → List ℕ → Bool
@@ -136,7 +139,9 @@ bytes_due there = concat (codes ": the word has 1 or more, not " ∷ decimal the
 abbrev pub due_behind : ℕ → Last → ℕ → List ℕ
 due_behind n last.Nothing there = count_words_told n there
 due_behind n last.Bytes there = bytes_due there
-due_behind n _ there = count_words_told (n + 1) there
+due_behind n (last.Number most) there = count_words_told (n + 1) there
+due_behind n (last.Value most) there = count_words_told (n + 1) there
+due_behind n last.Label there = count_words_told (n + 1) there
 
 abbrev pub due_told : Takes → ℕ → List ℕ
 due_told t there = due_behind t.registers t.last there
@@ -148,7 +153,9 @@ detail_told BadNumber s = which_told s
 detail_told OutOfRange s = which_told s ++ last_range s.takes.last
 detail_told UnknownLabel s = which_told s
 detail_told OperandCount s = due_told s.takes (length s.operands)
-detail_told _ s = []
+detail_told UnknownWord s = []
+detail_told LabelTwice s = []
+detail_told TooLong s = []
 
 abbrev pub detail : Why → Option Source → List ℕ
 detail why None = []
