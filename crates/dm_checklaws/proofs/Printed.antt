@@ -127,5 +127,5 @@ trace_is b bytes n ended valid p =
       counts = p.counts;
       fits = subst (All LineFits) same p.fits;
       ends_fit = subst (EndsFit ended) ends p.ends_fit;
-      text = p.text ∙ ap (λ ls. text_of_lines ls ++ text_behind ended (ends_of (length b.machines) p.world)) same ∙ ap (λ (es : List EndLine). text_of_lines (joined p.groups) ++ text_behind ended es) ends;
+      text = p.text ∙ ap (λ ls. text_of_lines ls ++ text_behind ended (ends_of b p.world)) same ∙ ap (λ (es : List EndLine). text_of_lines (joined p.groups) ++ text_behind ended es) ends;
     }

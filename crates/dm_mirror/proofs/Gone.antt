@@ -7,7 +7,7 @@ use Rattle.dm_onekernel.specs.Step as kernel
 pub not_alive : (b : Boot) (pt : Point) (i : MsgId) (z : Spot) (t : Told) → Run b pt → 1 ≤ standing pt.view i z → pt.view.told i ≡ Some t → is_fixed t.receiver ≡ false → pt.view.known (machine_of z) t.receiver ≡ Unknown → is_alive pt.kernel t.receiver ≡ false
 not_alive b pt i z t run least told loose unknown = not_true (is_alive pt.kernel t.receiver) (λ alive. run.found.process i z t least told loose alive unknown)
 
-has_some : (n : ℕ) (o : Option Life) → has_bytes n o ≡ true → is_some o ≡ true
+pub has_some : (n : ℕ) (o : Option Life) → has_bytes n o ≡ true → is_some o ≡ true
 has_some n None e = absurd (false≢true e)
 has_some n (Some life) e = refl
 

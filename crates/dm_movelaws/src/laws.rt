@@ -18,6 +18,7 @@ ghost use Rattle.dm_movelaws.specs.Protocol.{ProtocolMoves};
 ghost use Rattle.dm_movelaws.specs.Real.{RealAlways};
 ghost use Rattle.dm_movelaws.specs.Requested.{AnswersAreSo, MovesAsNamed};
 ghost use Rattle.dm_movelaws.specs.Routed.{RoutedAlways};
+ghost use Rattle.dm_movelaws.specs.ServerLines.{ServersAreSaid};
 ghost use Rattle.dm_movelaws.specs.Stages.{StepsInOrder};
 ghost use Rattle.dm_movelaws.specs.Stales.{StalesAlways};
 ghost use Rattle.dm_movelaws.specs.Trail.{TrailsStand, AddressesLead};
@@ -41,7 +42,8 @@ pub fn trails_stand()
 
 /// Wherever the rule leads from a boot file, from each place that a link, a message, a data move, a list of a server's, an update or a
 /// forwarding address names for a process, the forwarding addresses lead to the process, or, if it has ended, to a machine without a
-/// record of it: each with a higher count, in fewer steps than there are machines. Whoever is named is a kernel or a server, at home, or a process that was made.
+/// record of it: each with a higher count, in fewer steps than there are machines. Whoever is named is a kernel or a server, at home,
+/// or a process that was made.
 pub fn addresses_lead()
     ensures { AddressesLead }
 {}
@@ -224,6 +226,12 @@ pub fn protocol_moves()
 /// comes to, and how it stands there. A process that was never made has none.
 pub fn lives_are_said()
     ensures { LivesAreSaid }
+{}
+
+/// Wherever the rule leads from a boot file: among the lines that are said there at the end, each server has one line with how many
+/// messages it has sent; and one with the machine that it is on, leaves or comes to, exactly where it isn't here on machine 0.
+pub fn servers_are_said()
+    ensures { ServersAreSaid }
 {}
 
 /// Wherever the rule leads from a boot file, each request to move a process is said to be asked once at most, and is answered no more

@@ -88,7 +88,7 @@ routed_counts n after old new m h g = gave_counts (routes n m) n.numbers after o
 -- the kernel's state, pointwise and whole
 pub kernel_is : (k : Kernel) (s : KernelState) → kernel.IsIn k s → kernel.kernel_state k ≡ s
 kernel_is k s h =
-    λ i. record { here = h.here i; records = λ q. h.records q i; preds = λ q k. h.preds q k i; ring = h.ring i; inbox = h.inbox i; made = h.made i; sent = h.sent i; room = h.room i; servers = h.servers i; over = h.over i }
+    λ i. record { here = h.here i; records = λ q. h.records q i; preds = λ q k. h.preds q k i; ring = h.ring i; inbox = h.inbox i; made = h.made i; sent = h.sent i; room = h.room i; over = h.over i }
 
 -- the kernel's turn, then what comes of its parts
 some_answered : (r : Result Unit Stop) (after : Node) (old new : List Out) (a : Acts) → Answers r after old new a → AnswersSome r after old new (Some a)

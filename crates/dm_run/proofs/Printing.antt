@@ -98,7 +98,7 @@ offer_stops a b ds old new before now after w u e ls WriteFault same one boot h 
     }
 
 -- the lines at the end were offered
-pub ended_by : (A : Type 0) (b : Boot) (ds : List Directive) (before now after : Option (List ℕ)) (w : World) (es : List EndLine) (r : Result A Stop) → IsThrough b ds before now w → es ≡ world_end_lines (length b.machines) (world_state w) → All EndFits es → Offered now (text_of_ends es) after r → Ended by_world b ds before after (Some w) r
+pub ended_by : (A : Type 0) (b : Boot) (ds : List Directive) (before now after : Option (List ℕ)) (w : World) (es : List EndLine) (r : Result A Stop) → IsThrough b ds before now w → es ≡ world_end_lines b (world_state w) → All EndFits es → Offered now (text_of_ends es) after r → Ended by_world b ds before after (Some w) r
 ended_by A b ds before now after w es (Ok x) h said fits o =
     let come = h.ended.come in
     record {

@@ -24,7 +24,7 @@ pub record Front (n : ℕ) (pt : Point) (i : MsgId) (is : List MsgId) (t : Told)
   -- a message for a kernel is at its home
   pub at_home : t.receiver.num ≡ 0 → t.receiver.home ≡ pt.view.acting
 
-plain_front : (n : ℕ) (pt : Point) (i : MsgId) (is : List MsgId) (t : Told) → Front n pt i is t → is_word t ≡ false → Plain is_word pt.view i
+pub plain_front : (n : ℕ) (pt : Point) (i : MsgId) (is : List MsgId) (t : Told) → Front n pt i is t → is_word t ≡ false → Plain is_word pt.view i
 plain_front n pt i is t h plain u told = subst (λ (x : Told). is_word x ≡ false) (told_one (pt.view.told i) t u h.turn.told told) plain
 
 -- a line that learns nothing, of a message that removes no forwarding address

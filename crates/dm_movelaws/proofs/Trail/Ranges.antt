@@ -2,13 +2,12 @@
 use Rattle.dm_movelaws.proofs.Names.{◌≡◌, ◌≢◌, ℕ, ◌<◌, ◌||◌, Bool, true, false, List, [], ◌∷◌, ◌++◌, length, refl, ap, ◌∙◌, sym, subst, inl, inr, arith, cases_Bool, false≢true, nat_tests, is_some, if◌then◌else◌, slice_get, Option, None}
 use Rattle.dm_movelaws.proofs.Names.{Some, Pid, pid_eq, pid_eq-is, pid_eq-same, MessageKind, Boot, Step, IsStep, Label, Life, Line, OneKernel, bind-is, Point, moved, after_line, Spelled, group_of, by_group, label_of, kernel_after, Trails}
 use Rattle.dm_movelaws.proofs.Names.{Trodden, first_trodden, along, trails_after, Treads, line_treads, LineFits, HeadIn, Within, line_within, is_made, is_server, life_sort, SetLife, step_alike, step_ends, step_serves, step_creates}
-use Rattle.dm_movelaws.proofs.Names.{source_holds, destination_expects, destination, is_kill, plain_kind, touches, IsNetLine, Known, Here, Incoming, Frozen, Unknown, Both, server_fixed, first_point, map, zero, suc, BootProcess, option_map}
+use Rattle.dm_movelaws.proofs.Names.{source_holds, destination_expects, destination, is_kill, plain_kind, touches, IsNetLine, Known, Incoming, Frozen, Unknown, Both, first_point, map, zero, suc, BootProcess, option_map}
 use Rattle.dm_movelaws.proofs.Names.{BootImage, first_life, life_at, started, plain_link, TrailsIn, some_alike}
 use Rattle.dm_onekernel.specs.Step as kernel
 use Rattle.dm_rule.proofs.Trails.Along.{AllFit}
 use Rattle.dm_movelaws.proofs.At.RestOnly.{is_dead}
 use Rattle.dm_movelaws.proofs.Leading.{AllLines, parts_say, outcome_says}
-use Rattle.dm_movelaws.proofs.Real.Always.{head_less}
 
 -- what machines know is known by machines that there are, and so are those of trails
 pub record Ranged (n : ℕ) (pt : Point) (t : Trails) : Type 0 where
@@ -126,7 +125,7 @@ lines_ranged n (l ∷ ls) x y is fits heads on h =
 -- a group begins with a head, and has no other
 group_heads : (b : Boot) (n : ℕ) (pt : Point) (d : Step) (w : Spelled) → IsStep n d → group_of b pt d ≡ Some w → AllLines (HeadIn n) w.lines
 group_heads b n pt d w fit = by_group (λ v. AllLines (HeadIn n) v.lines) b pt d w (λ ps rest is said. (
-  head_less n d fit,
+  fit,
   parts_say (HeadIn n) (λ x y i k q. tt) (λ x y k l. tt) ps (moved pt (Line.Head d) pt.kernel) rest (outcome_says (HeadIn n) quiet_in net_in b pt d ps is) said,
 ))
   where
@@ -160,10 +159,7 @@ pub start_ranged : (b : Boot) → Both b (first_point b) → Ranged (first_point
 start_ranged b both =
     let pt = first_point b in
     let run = both.run in
-    let known : (q : Pid) → is_made pt.kernel q ≡ true → pt.view.known q.home q ≢ Unknown = λ q made. elim (cases_Bool (is_server q)) [
-      | inl server ↦ λ e. (let f : pt.view.known q.home q ≡ Here = ap (λ (m : ℕ). pt.view.known m q) (server_fixed q server).1 ∙ run.based.known.server 0 q server in let g : Here ≡ Unknown = sym f ∙ e in cc)
-      | inr process ↦ run.based.known.home q process (made_alive (is_server q) (pt.kernel.processes q) (first_lives b b.processes q) made)
-    ] in
+    let known : (q : Pid) → is_made pt.kernel q ≡ true → pt.view.known q.home q ≢ Unknown = λ q made. run.based.known.home q (made_alive (is_server q) (pt.kernel.processes q) (first_lives b b.processes q) made) in
     record {
       within = record { known = λ m q some. run.found.known_within m q some; acting = run.kept.acting };
       ranges = record { within = λ p made c m e. first_only (p.home ∷ []) p.home c m pt.kernel.machines refl refl (run.found.known_within p.home p (known p made)) e };

@@ -305,7 +305,7 @@ handles_keeps b o m id msg ps begins there =
           (let child = pid_of m (first_number + o.kernel.made m) in
           let born = unborn o m begins.rooted in
           comes_keeps pt (Line.Label (Label.Created id child)) child (Routes (pieces.answer_id id) ∷ []) refl (λ t step. step_notes pt.kernel t (Label.Created id child) step)
-          (λ n noted. (let (x, alive) = begins.sane.sound.notes.lives child n noted in begins.known.home child born.server (ap (λ (c : Bool). is_server child || c) (ap (λ (l : Option Life). is_some (kernel.alive l)) alive) ∙ or_true (is_server child)) (born.unknown child.home))) (tt, tt));
+          (λ n noted. (let (x, alive) = begins.sane.sound.notes.lives child n noted in begins.known.home child (ap (λ (c : Bool). is_server child || c) (ap (λ (l : Option Life). is_some (kernel.alive l)) alive) ∙ or_true (is_server child)) (born.unknown child.home))) (tt, tt));
       no_space = λ fixed slots blocks. calm (rule.says (Label.NoSpace id slots blocks) ∷ Routes (pieces.answer_id id) ∷ []) (tt, (tt, tt));
       took = λ fixed sent. calm (rule.says (Label.Took id) ∷ rule.routes sent) (tt, routes_calm sent);
       queued = λ to user. calm (Says (Line.Queued id) ∷ []) (tt, tt);
@@ -332,7 +332,7 @@ hears_keeps b o m i q ps begins =
     by_hears (Keeps pt) b o m i q ps (λ t there. record {
       buried = λ p about kind. calm (Says (Line.Buried i (length (preds_of o m p))) ∷ buries o m p) (tt, buries_calm (preds_of o m p));
       stale = λ p about late. calm (Says (Line.Stale i) ∷ []) (tt, tt);
-      told = λ p x about alive due. record {
+      told = λ p x about sized due. record {
         accepted = λ ask. calm (Says (Line.Migration Stage.Accepted p) ∷ to_kernel MessageKind.PullState i.from.home ∷ []) (tt, (tt, tt));
         lacks = λ slots blocks. calm (Says (Line.Lacks p slots blocks) ∷ to_kernel MessageKind.Refuse i.from.home ∷ []) (tt, (tt, tt));
         stays = λ kind free. comes_keeps pt (Line.Stays p) p [] refl (λ t step. none_notes pt.kernel t step) (λ n noted. none_free (pt.kernel.notes p) n free noted) tt;
@@ -342,6 +342,7 @@ hears_keeps b o m i q ps begins =
         last_chunk = calm (Says (Line.Migration Stage.StateTaken p) ∷ to_kernel MessageKind.PullBlock i.from.home ∷ []) (tt, (tt, tt));
         memory = calm (gives_piece i MessageKind.Memory) (tt, (tt, tt));
         next_block = calm (Says (Line.Proto i) ∷ to_kernel MessageKind.PullBlock i.from.home ∷ []) (tt, (tt, tt));
+        server_chunk = λ server. calm (Says (Line.Migration Stage.StateTaken p) ∷ Says (Line.Migration Stage.MemoryTaken p) ∷ to_kernel MessageKind.AllTaken i.from.home ∷ []) (tt, (tt, (tt, tt)));
         last_block = calm (Says (Line.Migration Stage.MemoryTaken p) ∷ to_kernel MessageKind.AllTaken i.from.home ∷ []) (tt, (tt, tt));
         left = λ ids to leaves. calm (left_parts i p ids to) (tt, sends_calm to ids (Says (Line.Migration Stage.Left p) ∷ to_kernel MessageKind.Restart i.from.home ∷ []) (tt, (tt, tt)));
         restarted = λ kind free. comes_keeps pt (Line.Migration Stage.Restarted p) p [] refl (λ t step. none_notes pt.kernel t step) (λ n noted. none_free (pt.kernel.notes p) n free noted) tt;
@@ -368,7 +369,7 @@ outcome_keeps b pt d ps h known = by_outcome (λ x xs. Keeps (moved pt (Line.Hea
   hears = λ m i is xs box none e. hears_keeps b pt m i (pt.view.told i) xs (begins pt m h known) e;
   ticks = λ m xs net. calm_keeps (moved pt (Line.Head (Step.Tick m)) pt.kernel) xs ((by_net AllCalm tt (λ l ps net h. (net_calm l net, h)) (λ a b l ps h. (tt, h))) xs net);
   delivers = λ a c k xs net. calm_keeps (moved pt (Line.Head (Step.Deliver a c k)) pt.kernel) xs ((by_net AllCalm tt (λ l ps net h. (net_calm l net, h)) (λ a b l ps h. (tt, h))) xs net);
-  asks = λ p m. calm_keeps (moved pt (Line.Head (Step.Migrate p m)) pt.kernel) (migrates pt p) (by_migrates AllCalm pt p (tt, tt) (tt, tt) (λ n off is. (tt, tt)));
+  asks = λ p m. calm_keeps (moved pt (Line.Head (Step.Migrate p m)) pt.kernel) (migrates pt p) (by_migrates AllCalm pt p (tt, tt) (tt, tt) (λ a here knows. (tt, tt)));
   calls = λ p m. calm_keeps (moved pt (Line.Head (Step.CallOff p m)) pt.kernel) (calls_off pt m p (pt.view.known m p)) (by_calls_off AllCalm pt m p (tt, tt) (λ from is come. (tt, sends_calm from (pt.view.held m p) (to_kernel MessageKind.CallOff from ∷ []) (tt, tt))));
 })
 
