@@ -1,11 +1,7 @@
 -- Tests for equality of names.
 use Rattle.dm_laws.proofs.Names.{◌≡◌, Bool, true, false, refl, arith, nat_tests, Pid, pid_eq, MsgId, id_eq, bool_eq}
-
-pub pid_eq-same : (p : Pid) → pid_eq p p ≡ true
-pid_eq-same p = grind (arith, nat_tests)
-
-pub pid_eq-is : (p q : Pid) → pid_eq p q ≡ true → p ≡ q
-pid_eq-is p q e = grind (arith, nat_tests)
+pub use Rattle.dm_linktable.proofs.ReceiverOrder.{pid_eq_self as pid_eq-same}
+pub use Rattle.dm_linktable.proofs.ReceiverOrder.{pid_eq_same as pid_eq-is}
 
 pub pid_eq-swap : (p q : Pid) → pid_eq p q ≡ pid_eq q p
 pid_eq-swap p q = grind (arith, nat_tests)

@@ -108,7 +108,7 @@ if_stopped-is : (y : PlainProcess) (b : Bool) (x : PlainProcess) → (if b then 
 if_stopped-is y true x e = cc
 if_stopped-is y false x e = (cc, refl)
 
-if_ready-is : (y : PlainProcess) (st : PlainStatus) (x : PlainProcess) → step.if_ready y st ≡ Some x → (y ≡ x) × (pending_of st ≡ None)
+pub if_ready-is : (y : PlainProcess) (st : PlainStatus) (x : PlainProcess) → step.if_ready y st ≡ Some x → (y ≡ x) × (pending_of st ≡ None)
 if_ready-is y Ready x e = if_stopped-is y y.stopped x e
 if_ready-is y _ x e = cc
 

@@ -2,6 +2,8 @@ pub mod Names
 pub mod Pieces
 pub mod Coming
 pub mod Messages
+pub mod Servers
+pub mod Frozen
 pub mod Way
 pub mod Readdressed
 pub mod Worked

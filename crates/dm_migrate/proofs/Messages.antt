@@ -1,6 +1,8 @@
 -- Messages that go on keep their plain meaning.
 use Rattle.dm_migrate.proofs.Names.{ℕ, ◌≡◌, ◌∙◌, List, [], ◌∷◌, ◌++◌, map, Option, None, Some, ap, ap₂, slice_index_or, subst, sym, refl, All, map-append, All-append, All-map, IsMachine, IsLawfulMessage, Message, PlainWhat, plain_message}
-use Rattle.dm_migrate.proofs.Names.{plain_what, with_what, sent_on}
+use Rattle.dm_migrate.proofs.Names.{arith, plain_what, with_what, sent_on, IsLawfulResident, queue_of}
+use Rattle.dm_resident.specs.declared.Resident.{Resident}
+use Rattle.dm_resident.specs.declared.Resident.TheVariants as resident
 
 plain_with : (at moves : ℕ) (m : Message) (w : Option PlainWhat) → with_what (sent_on at moves m) w ≡ with_what m w
 plain_with at moves m None = refl
@@ -11,7 +13,7 @@ plain_all at moves [] = refl
 plain_all at moves (m ∷ ms) = ap₂ (λ (x : _) (xs : _). x ∷ xs) (plain_with at moves m (plain_what m.what)) (plain_all at moves ms)
 
 -- what goes on to a machine is lawful
-lawful_on : (at moves : ℕ) (m : Message) → IsMachine at → IsLawfulMessage m → IsLawfulMessage (sent_on at moves m)
+pub lawful_on : (at moves : ℕ) (m : Message) → IsMachine at → IsLawfulMessage m → IsLawfulMessage (sent_on at moves m)
 lawful_on at moves m a l = record {
   from = l.from;
   answer = l.answer;
@@ -35,3 +37,9 @@ lawful_all at moves all queue held e a q h =
     let l : All IsLawfulMessage (queue ++ held) = All-append IsLawfulMessage queue held q h in
     subst (λ (ms : List Message). All IsLawfulMessage ms) (sym e)
     (All-map IsLawfulMessage (sent_on at moves) (queue ++ held) (λ k d i. lawful_on at moves (slice_index_or (queue ++ held) k d) a (l k d i)))
+
+-- what waits for what is lawful is lawful
+pub queue_lawful : (r : Resident) → IsLawfulResident r → All IsLawfulMessage (queue_of r)
+queue_lawful (resident.Process x) l = l.queue
+queue_lawful (resident.Board b) l = λ k d i. absurd (omega (arith, i))
+queue_lawful (resident.Manager g) l = λ k d i. absurd (omega (arith, i))

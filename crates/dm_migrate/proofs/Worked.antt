@@ -23,5 +23,9 @@ pub two_blocks : (block_bytes (replicate 256 7 ++ replicate 256 8) 0 ∷ block_b
 two_blocks = refl
 
 -- two chunks, then two blocks, and then nothing
-pub in_order : (after_chunk 0 false ∷ after_chunk 1 true ∷ after_block 0 2 ∷ after_block 1 2 ∷ []) ≡ Chunk 1 ∷ Block 0 ∷ Block 1 ∷ Nothing ∷ []
+pub in_order : (after_chunk 0 false 2 ∷ after_chunk 1 true 2 ∷ after_block 0 2 ∷ after_block 1 2 ∷ []) ≡ Chunk 1 ∷ Block 0 ∷ Block 1 ∷ Nothing ∷ []
 in_order = refl
+
+-- a server has no blocks
+pub no_blocks : (after_chunk 0 false 0 ∷ after_chunk 1 true 0 ∷ []) ≡ Chunk 1 ∷ Nothing ∷ []
+no_blocks = refl

@@ -1,6 +1,8 @@
--- How an arriving process is kept: with room for all of it, filled from the front.
-use Rattle.std.specs.Prelude.{◌⊎◌, ◌≡◌, ℕ, ◌*◌, ◌/◌, ◌<◌, ◌≤◌, List, length}
+-- How what arrives is kept: with room for all of it, filled from the front.
+use Rattle.std.specs.Prelude.{◌⊎◌, ◌≡◌, ℕ, ◌*◌, ◌/◌, ◌<◌, ◌≤◌, List, [], length, replicate}
 use Rattle.std.specs.declared.option.Option.{Option}
+use Rattle.std.specs.declared.option.Option.TheVariants.{None, Some}
+use Rattle.dm_migrate.specs.declared.arriving.Body.{Body}
 use Rattle.dm_link.specs.declared.Pid.{Pid}
 use Rattle.dm_message.specs.declared.Asker.{Asker}
 use Rattle.dm_message.specs.declared.Message.{Message}
@@ -19,6 +21,15 @@ pub record Parts : Type 0 where
   pub memory : List ℕ
   pub wanted : Wanted
   pub held : List Message
+
+-- the memory that there will be: a server has none
+abbrev pub memory_in : Option Body → List ℕ
+memory_in None = []
+memory_in (Some b) = b.memory
+
+-- what a process has beside its state bytes: at least one block, and a table that is empty yet
+abbrev pub IsBody : ℕ → Body → Type 0
+IsBody cap b = (1 ≤ length b.memory / 256) × (b.table ≡ replicate cap None)
 
 -- what has come of these parts
 abbrev pub come_of : Parts → Arrival
@@ -48,6 +59,5 @@ pub record IsComing (a : Parts) : Type 0 where
   pub moves : a.moves < 4294967295
   pub size : length a.state ≤ 4294967295
   pub whole : length a.memory ≡ 256 * (length a.memory / 256)
-  pub least : 1 ≤ length a.memory / 256
   pub most : length a.memory / 256 ≤ 256
   pub stage : IsStage (come_of a) a.state a.memory a.wanted

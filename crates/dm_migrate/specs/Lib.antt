@@ -1,6 +1,7 @@
 pub mod Pieces
 pub mod Departure
 pub mod Arrival
+pub mod Rooms
 pub mod Answer
 pub mod Asking
 pub mod Coming

@@ -1,14 +1,8 @@
--- A process in pieces: its state bytes in chunks of 512 bytes, its memory in blocks of 256.
+-- What moves in pieces: state bytes in chunks of 512 bytes, a memory in blocks of 256.
 use Rattle.std.specs.Prelude.{ℕ, ◌+◌, ◌*◌, ◌<◌, Bool, nat_le, List, length, take, drop}
 use Rattle.dm_link.specs.declared.Pid.{Pid}
 use Rattle.dm_message.specs.declared.What.{What}
 use Rattle.dm_message.specs.declared.What.TheVariants as what
-use Rattle.dm_process.specs.declared.process.Process.{Process}
-use Rattle.dm_statebytes.specs.Shell.{shell_of, shell_spelling}
-
--- the state bytes of a process: all of it but its memory and its queue
-abbrev pub state_of : Process → List ℕ
-state_of p = shell_spelling (shell_of p)
 
 -- state bytes have a chunk of this number
 abbrev pub HasChunk : List ℕ → ℕ → Type 0
@@ -22,7 +16,7 @@ chunk_bytes state k = take 512 (drop (512 * k) state)
 abbrev pub is_last : List ℕ → ℕ → Bool
 is_last state k = nat_le (length state) (512 * (k + 1))
 
--- the message that brings a chunk of a process's state bytes
+-- the message that brings a chunk of state bytes
 abbrev pub chunk_of : Pid → List ℕ → ℕ → What
 chunk_of p state k = what.State p k (is_last state k) (record { items = chunk_bytes state k })
 

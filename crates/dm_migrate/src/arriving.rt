@@ -1,33 +1,52 @@
-//! A process that comes to a machine, piece by piece.
-ghost use Rattle.std.specs.Prelude.{◌≡◌, ◌⊎◌, ◌+◌, ◌*◌, ◌<◌, ◌≤◌, ◌++◌, ◌∷◌, [], IfErr, IfOk, None, Ok, OnErr, OnOk, Some, false, length, map, replicate, take, drop, true};
+//! What comes to a machine piece by piece, a process or a server.
+ghost use Rattle.std.specs.Prelude.{◌≡◌, ◌⊎◌, ◌+◌, ◌*◌, ◌^◌, ◌<◌, ◌≤◌, ◌++◌, [], ℕ, IfErr, IfOk, None, Ok, OnErr, OnOk, Some, false, length, map, replicate, take, drop, true};
+ghost use Rattle.std.specs.Option.{IfSome};
+ghost use Rattle.dm_onekernel.specs.Boot.{manager, switchboard};
 ghost use Rattle.dm_statebytes.specs.Shell.{shell_of_bytes};
-ghost use Rattle.dm_process.specs.Lawful.{IsLawfulProcess};
-ghost use Rattle.dm_migrate.specs.Arrival.{IsNextChunk, after_block, after_chunk, all_sent_back, comes_from, expected, is_whole, pull, restarted, revived, with_block, with_chunk, with_held};
+ghost use Rattle.dm_switchboard.specs.Packed.{board_of_bytes};
+ghost use Rattle.dm_procman.specs.Packed.{manager_of_bytes};
+ghost use Rattle.dm_resident.specs.Lawful.{IsLawfulResident};
+ghost use Rattle.dm_resident.specs.Residents.{manager_of};
+ghost use Rattle.dm_resident.specs.declared.Resident.TheVariants as resident;
+ghost use Rattle.dm_migrate.specs.Coming.{IsBody, memory_in};
+ghost use Rattle.dm_migrate.specs.Arrival.{IsNextChunk, IsServerState, after_block, after_chunk, all_sent_back, comes_from, expected, is_process_coming, is_whole, moved_board, moved_manager, pull, restarted, revived, server_of_bytes, with_block, with_chunk, with_held};
 ghost use Rattle.dm_migrate.specs.Departure.{sent_on};
 
 use crate::answer::Ask;
-use dm_link::{Pid, Placeless};
+use dm_link::{Pid, Placeless, SWITCHBOARD};
 use dm_linktable::{FEW_SLOTS, MOST_SLOTS, Table};
-use dm_memory::{NoMemory, push_or_return, zeros};
+use dm_memory::{NoMemory, push_or_return, with_room};
 use dm_message::{Asker, CHUNK, Message, What};
 use dm_process::{Mailbox, Process};
 use dm_processor::{MOST_BLOCKS, Memory};
-use dm_statebytes::{MOST_STATE, Shell, unpack};
+use dm_procman::{ProcMan, ServerError};
+use dm_resident::Resident;
+use dm_statebytes::{Shell, unpack};
+use dm_switchboard::Switchboard;
 use std::alloc::Global;
 use std::marker::Model;
 
-/// The piece of a process that is asked for.
+/// The piece that is asked for.
 #[derive(Clone, Copy)]
 pub enum Wanted {
     /// A chunk of 512 of its state bytes, or fewer where it is the last.
     Chunk(u32),
-    /// A block of 256 bytes of its memory.
+    /// A block of 256 bytes of a process's memory.
     Block(u8),
     /// All has come.
     Nothing,
 }
 
-/// A process that is on its way to a machine, which has taken the memory that all of it needs.
+/// What a process has beside its state bytes: as it comes, room for it.
+#[derive(Drop)]
+struct Body {
+    /// All of it; the blocks that haven't come are 0.
+    memory: Memory,
+    /// An empty one, for its links.
+    table: Table,
+}
+
+/// A process or a server that is on its way to a machine, which has taken the memory that all of it needs while it comes.
 #[derive(Drop)]
 pub struct Arriving {
     pid: Pid,
@@ -38,19 +57,17 @@ pub struct Arriving {
     cap: u8,
     /// As many as there will be; those that haven't come are 0.
     state: Vec<u8>,
-    /// All of it; the blocks that haven't come are 0.
-    memory: Memory,
+    /// A server has none.
+    body: Option<Body>,
     wanted: Wanted,
     held: Vec<Message>,
-    /// An empty one, for its links.
-    table: Table,
     alloc: Global,
 }
 
 impl Model for Arriving {
-    ghost use Rattle.std.specs.Prelude.{◌≡◌, None, replicate};
     ghost use Rattle.dm_migrate.specs.Arrival.{Arrival};
-    ghost use Rattle.dm_migrate.specs.Coming.{IsComing, come_of, Parts};
+    ghost use Rattle.dm_migrate.specs.Coming.{IsBody, IsComing, come_of, memory_in, Parts};
+    ghost use Rattle.std.specs.Option.{IfSome};
 
     ghost Value = { Arrival };
 
@@ -61,7 +78,7 @@ impl Model for Arriving {
       asker = a.asker;
       cap = a.cap;
       state = a.state.items;
-      memory = a.memory;
+      memory = memory_in a.body;
       wanted = a.wanted;
       held = a.held.items;
     }) };
@@ -73,18 +90,16 @@ impl Model for Arriving {
       asker = a.asker;
       cap = a.cap;
       state = a.state.items;
-      memory = a.memory;
+      memory = memory_in a.body;
       wanted = a.wanted;
       held = a.held.items;
-    }) × (a.table ≡ replicate a.cap None) };
+    }) × IfSome a.body (IsBody a.cap) };
 }
 
-/// Makes room for a process that is to come, with nothing of it yet.
+/// Makes room for what is to come, with nothing of it yet.
 pub(crate) fn expect(alloc: Global, ask: Ask, cap: u8) -> Result<Arriving, NoMemory>
-    requires least { 1 ≤ ask.blocks }
     requires most { ask.blocks ≤ MOST_BLOCKS }
     requires moves { ask.moves < u32.MAX }
-    requires size { ask.size ≤ MOST_STATE }
     requires cap { (cap ≡ FEW_SLOTS) ⊎ (cap ≡ MOST_SLOTS) }
     ensures { IfOk result (λ a. a ≡ expected ask.pid ask.source ask.blocks ask.moves ask.size ask.asker cap) }
 {
@@ -94,13 +109,40 @@ pub(crate) fn expect(alloc: Global, ask: Ask, cap: u8) -> Result<Arriving, NoMem
         moves: ask.moves,
         asker: ask.asker,
         cap,
-        state: zeros(alloc, ask.size)?,
-        memory: Memory::from_image(alloc, &[], ask.blocks)?,
+        state: room_for_state(alloc, ask.size)?,
+        body: body_of(alloc, ask.blocks, cap)?,
         wanted: Wanted::Chunk(0),
         held: Vec::new(alloc),
-        table: Table::new(alloc, cap)?,
         alloc,
     })
+}
+
+/// As many zeros as there will be state bytes.
+fn room_for_state(alloc: Global, size: u32) -> Result<Vec<u8>, NoMemory>
+    ensures { IfOk result (λ state. state.items ≡ replicate size 0) }
+{
+    let mut state: Vec<u8> = with_room(alloc, size as usize)?;
+    match state.resize(size as usize, 0) {
+        Ok(()) => Ok(state),
+        // There is room for them.
+        Err(_) => unreachable!(),
+    }
+}
+
+/// Room for the memory and the links of a process of so many blocks; a server has none.
+fn body_of(alloc: Global, blocks: u16, cap: u8) -> Result<Option<Body>, NoMemory>
+    requires most { blocks ≤ MOST_BLOCKS }
+    requires cap { (cap ≡ FEW_SLOTS) ⊎ (cap ≡ MOST_SLOTS) }
+    ensures memory { IfOk result (λ b. memory_in b ≡ replicate (256 * blocks) 0) }
+    ensures body { IfOk result (λ b. IfSome b (IsBody cap)) }
+{
+    if blocks == 0 {
+        return Ok(None);
+    }
+    Ok(Some(Body {
+        memory: Memory::from_image(alloc, &[], blocks)?,
+        table: Table::new(alloc, cap)?,
+    }))
 }
 
 impl Arriving {
@@ -125,11 +167,14 @@ impl Arriving {
         machine == self.source
     }
 
-    /// How many blocks of memory it has, 1 to 256.
+    /// How many blocks of memory it has: a process 1 to 256, a server none.
     pub fn blocks(&self) -> u16
         ensures { result ≡ self.now.blocks }
     {
-        self.memory.blocks()
+        match &self.body {
+            Some(body) => body.memory.blocks(),
+            None => 0,
+        }
     }
 
     /// How often it had moved before.
@@ -168,23 +213,44 @@ impl Arriving {
         self.cap
     }
 
-    /// All of it but for its memory and its queue, where all has come, with a table that is handed in, empty. It takes no
+    /// Whether it is a process, and not a server.
+    pub fn is_process(&self) -> bool
+        ensures { result ≡ is_process_coming self.now }
+    {
+        self.body.is_some()
+    }
+
+    /// All of a process but for its memory and its queue, where all has come, with a table that is handed in, empty. It takes no
     /// memory.
     pub fn shell(&self, empty: Table) -> Shell
         requires whole { self.now.wanted ≡ Wanted.Nothing }
+        requires process { is_process_coming self.now ≡ true }
         requires empty { empty ≡ replicate self.now.cap None }
         ensures exact { shell_of_bytes self.now.state self.now.cap ≡ Ok result }
-        ensures process { restarted self.now ≡ Some (revived result self.now.memory) }
+        ensures process { (machines images : ℕ) → restarted machines images self.now ≡ Some (resident.Process (revived result self.now.memory)) }
     {
         unpack(&self.state, self.cap, empty).unwrap()
     }
 
-    /// Its memory, where all has come.
+    /// The memory of a process, where all has come.
     pub fn memory(&self) -> &Memory
-        requires { self.now.wanted ≡ Wanted.Nothing }
+        requires whole { self.now.wanted ≡ Wanted.Nothing }
+        requires process { is_process_coming self.now ≡ true }
         ensures { result.now ≡ self.now.memory }
     {
-        &self.memory
+        &self.body.as_ref().unwrap().memory
+    }
+
+    /// The server that has come, on a machine of a system of so many machines and images; it has moved once more.
+    pub fn server(&self, machines: u8, images: u16) -> Result<Resident, NoMemory>
+        requires whole { self.now.wanted ≡ Wanted.Nothing }
+        requires server { is_process_coming self.now ≡ false }
+        ensures exact { IfOk result (λ r. restarted machines images self.now ≡ Some r) }
+        // What is read of a system's machines is lawful, and each of the manager's children has a number.
+        ensures lawful { machines ≤ 16 → IfOk result IsLawfulResident }
+        ensures numbered { machines ≤ 16 → IfOk result (λ r. IfSome (manager_of r) (λ g. length g.children < 2 ^ 32)) }
+    {
+        server_of(self.alloc, self.pid, &self.state, machines, images)
     }
 
     /// Takes the chunk that was asked for; asks for the next piece. It takes no memory.
@@ -239,24 +305,31 @@ impl Arriving {
         Ok((held, What::CallOff { pid }))
     }
 
-    /// It is here: the process that has come, which has moved once more, and what was held. It takes no memory.
-    pub fn restart(self) -> (Process, Vec<Message>)
+    /// It is here: what has come, which has moved once more, and what was held; on a machine of a system of so many machines and
+    /// images. Only a server takes memory.
+    pub fn restart(self, machines: u8, images: u16) -> Result<(Resident, Vec<Message>), NoMemory>
         requires { self.wanted ≡ Wanted.Nothing }
-        ensures process { restarted self ≡ Some result.0 }
-        ensures lawful { IsLawfulProcess result.0 }
-        ensures held { result.1.items ≡ self.held }
+        ensures resident { IfOk result (λ r. restarted machines images self ≡ Some r.0) }
+        ensures lawful { machines ≤ 16 → IfOk result (λ r. IsLawfulResident r.0) }
+        ensures held { IfOk result (λ r. r.1.items ≡ self.held) }
     {
         let Arriving {
+            pid,
             cap,
             state,
-            memory,
+            body,
             held,
-            table,
             alloc,
             ..
         } = self;
-        let shell = unpack(&state, cap, table).unwrap();
-        (revive(alloc, shell, memory), held)
+        let resident = match body {
+            Some(body) => {
+                let shell = unpack(&state, cap, body.table).unwrap();
+                Resident::Process(revive(alloc, shell, body.memory))
+            }
+            None => server_of(alloc, pid, &state, machines, images)?,
+        };
+        Ok((resident, held))
     }
 
     /// Asks for the piece that is to come next.
@@ -276,8 +349,9 @@ impl Arriving {
         requires { IsNextChunk self.old self.old.pid chunk last bytes.now }
         ensures { self.new ≡ with_chunk self.old chunk last bytes.now }
     {
+        let blocks = self.blocks();
         put_at(&mut self.state, CHUNK * chunk as usize, bytes);
-        self.wanted = after_chunk(chunk, last);
+        self.wanted = after_chunk(chunk, last, blocks);
     }
 
     /// Takes the block that was asked for.
@@ -285,8 +359,9 @@ impl Arriving {
         requires { self.old.wanted ≡ Wanted.Block block }
         ensures { self.new ≡ with_block self.old block bytes.now }
     {
-        let blocks = self.memory.blocks();
-        self.memory.put_block(block, bytes);
+        let memory = &mut self.body.as_mut().unwrap().memory;
+        let blocks = memory.blocks();
+        memory.put_block(block, bytes);
         self.wanted = after_block(block, blocks);
     }
 }
@@ -311,15 +386,17 @@ fn send_back(messages: &mut [Message], to: u8, moves: u32)
     }
 }
 
-/// What is asked for after a chunk.
-fn after_chunk(chunk: u32, last: bool) -> Wanted
+/// What is asked for after a chunk, where there are so many blocks; a server has none.
+fn after_chunk(chunk: u32, last: bool, blocks: u16) -> Wanted
     requires { chunk < u32.MAX }
-    ensures { result ≡ after_chunk chunk last }
+    ensures { result ≡ after_chunk chunk last blocks }
 {
-    if last {
-        Wanted::Block(0)
-    } else {
+    if !last {
         Wanted::Chunk(chunk + 1)
+    } else if blocks == 0 {
+        Wanted::Nothing
+    } else {
+        Wanted::Block(0)
     }
 }
 
@@ -332,6 +409,64 @@ fn after_block(block: u8, blocks: u16) -> Wanted
         Wanted::Block(block + 1)
     } else {
         Wanted::Nothing
+    }
+}
+
+/// The server that has come as these bytes, after one move more.
+fn server_of(
+    alloc: Global,
+    pid: Pid,
+    state: &[u8],
+    machines: u8,
+    images: u16,
+) -> Result<Resident, NoMemory>
+    requires { IsServerState pid state.now }
+    ensures exact { IfOk result (λ r. server_of_bytes machines images pid state.now ≡ Some r) }
+    ensures lawful { machines ≤ 16 → IfOk result IsLawfulResident }
+    ensures numbered { machines ≤ 16 → IfOk result (λ r. IfSome (manager_of r) (λ g. length g.children < 2 ^ 32)) }
+{
+    if pid == SWITCHBOARD {
+        board_of(alloc, state)
+    } else {
+        manager_of(alloc, state, machines, images)
+    }
+}
+
+/// The switchboard that has come as these bytes, after one move more.
+fn board_of(alloc: Global, state: &[u8]) -> Result<Resident, NoMemory>
+    requires { IsServerState switchboard state.now }
+    ensures exact { IfOk result (λ r. moved_board (board_of_bytes state.now) ≡ Some r) }
+    ensures lawful { IfOk result IsLawfulResident }
+    ensures board { IfOk result (λ r. manager_of r ≡ None) }
+{
+    match Switchboard::unpack(alloc, state) {
+        Ok(board) => {
+            let mut board = board;
+            board.moved();
+            Ok(Resident::Board(board))
+        }
+        Err(ServerError::NoMemory(none)) => Err(none),
+        // What has come whole spells it.
+        Err(ServerError::StateBytes(_)) => unreachable!(),
+    }
+}
+
+/// The manager that has come as these bytes, after one move more.
+fn manager_of(alloc: Global, state: &[u8], machines: u8, images: u16) -> Result<Resident, NoMemory>
+    requires { IsServerState manager state.now }
+    ensures exact { IfOk result (λ r. moved_manager (manager_of_bytes machines images state.now) ≡ Some r) }
+    ensures lawful { machines ≤ 16 → IfOk result IsLawfulResident }
+    ensures numbered { machines ≤ 16 → IfOk result (λ r. IfSome (manager_of r) (λ g. length g.children < 2 ^ 32)) }
+{
+    match ProcMan::unpack(alloc, state, machines, images) {
+        Ok(manager) => {
+            let mut manager = manager;
+            manager.moved();
+            Ok(Resident::Manager(manager))
+        }
+        Err(ServerError::NoMemory(none)) => Err(none),
+        // What has come whole spells it.
+        Err(ServerError::StateBytes(_)) => unreachable!(),
     }
 }
 

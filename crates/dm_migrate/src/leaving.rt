@@ -1,27 +1,30 @@
-//! A process that is frozen where it leaves, and what it gives of itself.
+//! What is frozen where it leaves, a process or a server, and what it gives of itself.
 ghost use Rattle.std.specs.Prelude.{◌≡◌, ◌+◌, ◌*◌, ◌<◌, ◌≤◌, ◌++◌, ◌∷◌, [], IfErr, IfOk, IfSome, OnErr, OnOk, length, map};
 ghost use Rattle.std.specs.List.{All};
 ghost use Rattle.std.specs.Vec.{vec_capacity, vec_len};
 ghost use Rattle.dm_link.specs.Lawful.{IsLawfulAddr, IsMachine};
-ghost use Rattle.dm_message.specs.Lawful.{IsLawfulMessage, IsLawfulWhat, IsServer};
+ghost use Rattle.dm_message.specs.Lawful.{IsLawfulMessage, IsLawfulWhat};
 ghost use Rattle.dm_message.specs.Plain.{plain_message};
-ghost use Rattle.dm_process.specs.Lawful.{IsLawfulProcess};
-ghost use Rattle.dm_migrate.specs.Departure.{CanMove, all_sent_on, ask_of, frozen, sent_on, with_held};
-ghost use Rattle.dm_migrate.specs.Pieces.{HasBlock, HasChunk, block_of, chunk_bytes, chunk_of, state_of};
+ghost use Rattle.dm_resident.specs.Lawful.{HasFewAddresses, IsLawfulResident};
+ghost use Rattle.dm_resident.specs.Packed.{state_of};
+ghost use Rattle.dm_resident.specs.Residents.{memory_of, moves_of, name_of, queue_of};
+ghost use Rattle.dm_migrate.specs.Departure.{CanMove, IsNamed, all_sent_on, ask_of, frozen, sent_on, with_held};
+ghost use Rattle.dm_migrate.specs.Pieces.{HasBlock, HasChunk, block_of, chunk_bytes, chunk_of};
 
 use arrayvec::ArrayVec;
 use dm_link::Placeless;
+use dm_lists::Queue;
 use dm_memory::{NoMemory, push_or_return};
 use dm_message::{Asker, CHUNK, Message, What};
-use dm_process::{Mailbox, Process};
-use dm_statebytes::pack;
+use dm_process::Process;
+use dm_resident::Resident;
 use std::alloc::Global;
 use std::marker::Model;
 
-/// A process that is frozen until it has gone, or stays.
+/// A process or a server that is frozen until it has gone, or stays.
 #[derive(Drop)]
 pub struct Leaving {
-    process: Process,
+    resident: Resident,
     to: u8,
     asker: Option<Asker>,
     state: Vec<u8>,
@@ -32,45 +35,46 @@ pub struct Leaving {
 impl Model for Leaving {
     ghost use Rattle.std.specs.Prelude.{◌≡◌};
     ghost use Rattle.dm_migrate.specs.Departure.{CanMove, Departure};
-    ghost use Rattle.dm_migrate.specs.Pieces.{state_of};
+    ghost use Rattle.dm_resident.specs.Packed.{state_of};
 
     ghost Value = { Departure };
 
-    ghost view = { λ l. record { process = l.process; to = l.to; asker = l.asker; held = l.held.items } };
+    ghost view = { λ l. record { resident = l.resident; to = l.to; asker = l.asker; held = l.held.items } };
 
-    ghost invariant = { λ l. CanMove l.process × (l.state.items ≡ state_of l.process) };
+    ghost invariant = { λ l. CanMove l.resident × (l.state.items ≡ state_of l.resident) };
 }
 
-/// Freezes a process that is to go to a machine, and gives what is to be asked there. It takes the memory of the
-/// state bytes; where there is none, the process is handed back.
-#[tactic(auto, unfolding(crate::specs::Departure::IsReadAgain))]
+/// Freezes what is to go to a machine, and gives what is to be asked there. It takes the memory of the state bytes; where there
+/// is none, it is handed back.
 pub fn freeze(
     alloc: Global,
-    process: Process,
+    resident: Resident,
     to: u8,
     asker: Option<Asker>,
-) -> Result<(Leaving, What), (Process, NoMemory)>
-    requires lawful { IsLawfulProcess process }
-    requires moves { process.moves < u32.MAX }
-    ensures frozen { IfOk result (λ l. l.0 ≡ frozen process to asker) }
-    ensures ask { IfOk result (λ l. l.1 ≡ ask_of process asker) }
-    ensures lawful { ¬ IsServer process.pid → IfSome asker (λ a. IsLawfulAddr a.addr) → IfOk result (λ l. IsLawfulWhat l.1) }
-    ensures can_move { OnOk result (CanMove process) }
-    ensures returned { IfErr result (λ e. e.0 ≡ process) }
+) -> Result<(Leaving, What), (Resident, NoMemory)>
+    requires lawful { IsLawfulResident resident }
+    requires moves { moves_of resident < u32.MAX }
+    requires few { HasFewAddresses resident }
+    requires size { length (state_of resident) ≤ u32.MAX }
+    ensures frozen { IfOk result (λ l. l.0 ≡ frozen resident to asker) }
+    ensures ask { IfOk result (λ l. l.1 ≡ ask_of resident asker) }
+    ensures lawful { IsNamed resident → IfSome asker (λ a. IsLawfulAddr a.addr) → IfOk result (λ l. IsLawfulWhat l.1) }
+    ensures can_move { OnOk result (CanMove resident) }
+    ensures returned { IfErr result (λ e. e.0 ≡ resident) }
 {
-    let state = match pack(alloc, &process) {
+    let state = match resident.pack(alloc) {
         Ok(state) => state,
-        Err(none) => return Err((process, none)),
+        Err(none) => return Err((resident, none)),
     };
     let ask = What::Ask {
-        pid: process.pid,
-        blocks: process.memory.blocks(),
-        moves: process.moves,
+        pid: resident.pid(),
+        blocks: resident.blocks(),
+        moves: resident.moves(),
         size: state.len() as u32,
         asker,
     };
     let leaving = Leaving {
-        process,
+        resident,
         to,
         asker,
         state,
@@ -81,12 +85,12 @@ pub fn freeze(
 }
 
 impl Leaving {
-    /// The process, as it was when it was frozen.
-    pub fn process(&self) -> &Process
-        ensures process { result.now ≡ self.now.process }
-        ensures can_move { CanMove self.now.process }
+    /// What was frozen, as it was then.
+    pub fn resident(&self) -> &Resident
+        ensures resident { result.now ≡ self.now.resident }
+        ensures can_move { CanMove self.now.resident }
     {
-        &self.process
+        &self.resident
     }
 
     /// The machine that it goes to.
@@ -112,12 +116,12 @@ impl Leaving {
 
     /// The chunk of this number of its state bytes.
     pub fn chunk(&self, k: u32) -> What
-        requires { HasChunk (state_of self.now.process) k }
-        ensures piece { result ≡ chunk_of self.now.process.pid (state_of self.now.process) k }
+        requires { HasChunk (state_of self.now.resident) k }
+        ensures piece { result ≡ chunk_of (name_of self.now.resident) (state_of self.now.resident) k }
         ensures lawful { IsLawfulWhat result }
     {
         What::State {
-            pid: self.process.pid,
+            pid: self.resident.pid(),
             chunk: k,
             last: self.state.len() <= CHUNK * (k as usize + 1),
             bytes: chunk_at(&self.state, k as usize),
@@ -126,14 +130,15 @@ impl Leaving {
 
     /// The block of this number of its memory.
     pub fn block(&self, k: u8) -> What
-        requires { HasBlock self.now.process.memory k }
-        ensures piece { result ≡ block_of self.now.process.pid self.now.process.memory k }
+        requires { HasBlock (memory_of self.now.resident) k }
+        ensures piece { result ≡ block_of (name_of self.now.resident) (memory_of self.now.resident) k }
         ensures lawful { IsLawfulWhat result }
     {
+        let process = self.resident.process().unwrap();
         What::Memory {
-            pid: self.process.pid,
+            pid: process.pid,
             block: k,
-            bytes: *self.process.memory.block(k),
+            bytes: *process.memory.block(k),
         }
     }
 
@@ -150,39 +155,34 @@ impl Leaving {
     /// handed back.
     pub fn forward_all(self) -> Result<Vec<Message>, (Leaving, NoMemory)>
         ensures messages { IfOk result (λ r. r.items ≡ all_sent_on self) }
-        ensures plain { IfOk result (λ r. map plain_message r.items ≡ map plain_message (self.process.queue ++ self.held)) }
+        ensures plain { IfOk result (λ r. map plain_message r.items ≡ map plain_message (queue_of self.resident ++ self.held)) }
         ensures lawful { IsMachine self.to → All IsLawfulMessage self.held → IfOk result (λ r. All IsLawfulMessage r.items) }
         ensures returned { IfErr result (λ e. e.0 ≡ self) }
     {
-        let mut messages = match self
-            .process
-            .queue
-            .messages()
-            .room_with(self.alloc, &self.held)
-        {
+        let mut messages = match room_for(&self) {
             Ok(messages) => messages,
             Err(none) => return Err((self, none)),
         };
         let Leaving {
-            process,
+            resident,
             to,
             held,
             ..
         } = self;
-        let Process { queue, moves, .. } = process;
-        send_queue(&mut messages, queue, to, moves + 1);
-        send_held(&mut messages, held, to, moves + 1);
+        let moves = resident.moves() + 1;
+        send_queue(&mut messages, resident, to, moves);
+        send_held(&mut messages, held, to, moves);
         Ok(messages)
     }
 
-    /// It stays: the process as it was, and what was held.
-    pub fn stay(self) -> (Process, Vec<Message>)
-        ensures process { result.0 ≡ self.process }
-        ensures lawful { IsLawfulProcess result.0 }
+    /// It stays: the process or the server as it was, and what was held.
+    pub fn stay(self) -> (Resident, Vec<Message>)
+        ensures resident { result.0 ≡ self.resident }
+        ensures lawful { IsLawfulResident result.0 }
         ensures held { result.1.items ≡ self.held }
     {
-        let Leaving { process, held, .. } = self;
-        (process, held)
+        let Leaving { resident, held, .. } = self;
+        (resident, held)
     }
 }
 
@@ -197,13 +197,31 @@ fn chunk_at(state: &[u8], k: usize) -> ArrayVec<u8, CHUNK>
     bytes
 }
 
-/// Adds the messages of a queue, which go on to a machine, where there is room for them.
-fn send_queue(messages: &mut Vec<Message>, queue: Mailbox, to: u8, moves: u32)
-    requires room { vec_len messages.old + length queue ≤ vec_capacity messages.old }
-    ensures items { messages.new.items ≡ messages.old.items ++ map (sent_on to moves) queue }
-    ensures len { vec_len messages.new ≡ vec_len messages.old + length queue }
+/// An empty vector with room for all that goes on: the queue, and what was held.
+fn room_for(leaving: &Leaving) -> Result<Vec<Message>, NoMemory>
+    ensures items { IfOk result (λ r. r.items ≡ []) }
+    ensures room { IfOk result (λ r. vec_len r + (length (queue_of leaving.now.resident) + length leaving.now.held) ≤ vec_capacity r) }
+{
+    match leaving.resident.process() {
+        Some(process) => process
+            .queue
+            .messages()
+            .room_with(leaving.alloc, &leaving.held),
+        None => Queue::new(leaving.alloc).room_with(leaving.alloc, &leaving.held),
+    }
+}
+
+/// Adds the messages that wait for a process, which go on to a machine, where there is room for them; a server has no queue.
+fn send_queue(messages: &mut Vec<Message>, resident: Resident, to: u8, moves: u32)
+    requires room { vec_len messages.old + length (queue_of resident) ≤ vec_capacity messages.old }
+    ensures items { messages.new.items ≡ messages.old.items ++ map (sent_on to moves) (queue_of resident) }
+    ensures len { vec_len messages.new ≡ vec_len messages.old + length (queue_of resident) }
     ensures capacity { vec_capacity messages.old ≤ vec_capacity messages.new }
 {
+    let Some(process) = resident.into_process() else {
+        return;
+    };
+    let Process { queue, .. } = process;
     let mut queue = queue.into_queue();
     while let Some(message) = queue.pop() {
         send_on(messages, message, to, moves);

@@ -1,4 +1,4 @@
-//! Migration (1983): the two states that a process has on its way, where it leaves and where it comes to.
+//! Migration (1983): the two states that a process or a server has on its way, where it leaves and where it comes to.
 #![tactic(auto)]
 
 pub mod answer;
@@ -7,7 +7,7 @@ mod asker;
 mod laws;
 pub mod leaving;
 
-pub use answer::{Ask, Asked, answer_ask};
+pub use answer::{Ask, Asked, answer_ask, release};
 pub use arriving::{Arriving, Wanted};
 pub use asker::{asker_of, moved_answer, request_of};
 pub use dm_memory::NoMemory;

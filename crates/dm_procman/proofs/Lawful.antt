@@ -1,13 +1,14 @@
 -- What the manager keeps and sends is lawful.
-use Rattle.dm_procman.proofs.Names.{◌≡◌, ◌≤◌, ℕ, zero, suc, ◌+◌, ◌*◌, Bool, true, false, ◌==◌, ◌&&◌, ◌||◌, nat_lt, nat_le, if◌then◌else◌, List, [], ◌∷◌, ◌++◌, length, map, slice_get, refl, sym, subst, ap, ◌∙◌, arith, common_steps, All-map}
+use Rattle.dm_procman.proofs.Names.{◌≡◌, ◌≤◌, ℕ, zero, suc, ◌+◌, ◌*◌, Bool, true, false, ◌==◌, ◌&&◌, nat_lt, nat_le, if◌then◌else◌, List, [], ◌∷◌, ◌++◌, length, map, slice_get, refl, sym, subst, ap, ◌∙◌, arith, common_steps, All-map}
 use Rattle.dm_procman.proofs.Names.{All-push, All, IfSome, IfOk, OnErr, Option, Result, Ok, Err, Pid, Addr, Link, IsMachine, IsLawfulAddr, IsLawfulEnclosed, pid_eq, is_behind, relocated, retargeted, retargeted_link, NoMemory, Message}
 use Rattle.dm_procman.proofs.Names.{MsgId, What, kind_of, IsLawfulMessage, IsLawfulWhat, is_answer, Boot, BootProcess, IsValid, manager, process_is_valid, processes_are_valid, starting_at, switchboard, Pending, IsLawfulManager}
-use Rattle.dm_procman.proofs.Names.{IsLawfulPending, Managing, at_home, child_at_home, retargeted_manager, retargeted_pending, starting, answer_over, control_link, message_to, kernel_at, child_named, moves_child, tells_to_move, Taken}
+use Rattle.dm_procman.proofs.Names.{IsLawfulPending, Managing, at_home, child_at_home, retargeted_manager, retargeted_pending, starting, answer_over, control_link, message_to, kernel_at, child_named, known_address, asks_to_move, tells_to_move, Taken}
 use Rattle.dm_procman.proofs.Names.{answers, asks_for, bad_request, child_address, controls, controls_child, pending_request, requests, sends, settled, takes, takes_created, takes_no_room, takes_user, wants_child, with_pending}
 use Rattle.dm_procman.proofs.Names.{without_pending, get_or, ◌<◌, option_map, Outcome, code_of_outcome, PendingKind, answers_over, asks, first_link, takes_moved, wants_move}
 use Rattle.std.specs.declared.option.Option.TheVariants.{None, Some}
 use Rattle.dm_message.specs.declared.What.TheVariants as what
-use Rattle.dm_procman.specs.declared.moving.MoveError.TheVariants as no
+use Rattle.dm_statebytes.specs.Servers.{IsAddressOf}
+use Rattle.dm_procman.specs.Making.{address_at}
 use Rattle.dm_procman.proofs.Hearing.{IsHeard, IsUser, IsCreated, IsNoRoom, IsMoved}
 use Rattle.dm_onekernel.specs.declared.request.PendingKind.TheVariants as wanted
 
@@ -33,16 +34,16 @@ either P true x y p q = p refl
 either P false x y p q = q
 
 module _ (here : ℕ) (machine : here < 16) where
-  message_lawful : (n : ℕ) (to : Addr) (w : What) → IsLawfulAddr to → false ≡ is_answer (kind_of w) → IsLawfulWhat w → IsLawfulMessage (message_to here n to w)
-  message_lawful n to w a k l = record { from = omega arith; answer = k; to = a; sender = record { home = omega arith; at = omega (arith, machine) }; what = l }
+  message_lawful : (moves n : ℕ) (to : Addr) (w : What) → IsLawfulAddr to → false ≡ is_answer (kind_of w) → IsLawfulWhat w → IsLawfulMessage (message_to here moves n to w)
+  message_lawful moves n to w a k l = record { from = omega arith; answer = k; to = a; sender = record { home = omega arith; at = omega (arith, machine) }; what = l }
 
   sends_lawful : (g : Managing) (m : Message) → IsLawfulManager g → IsLawfulMessage m → IsLawfulTaken (sends g m)
-  sends_lawful g m l k = (record { children = l.children; pending = l.pending; machines = l.machines }, k)
+  sends_lawful g m l k = (record { children = l.children; pending = l.pending; board = l.board; machines = l.machines }, k)
 
   answers_lawful : (g : Managing) (l : Link) (code : ℕ) (ls : List Link) → IsLawfulManager g → IsLawfulEnclosed l → length ls ≤ 4 → All IsLawfulEnclosed ls → IsLawfulTaken (answers here g l code ls)
   answers_lawful g l code ls h e few all =
-      sends_lawful g (answer_over here g.sent l code ls) h
-      (message_lawful g.sent l.addr (what.User l.code l.channel (record { items = code ∷ [] }) (record { items = ls })) e.link.addr refl (e.link.channel, omega arith, few, all))
+      sends_lawful g (answer_over here g.moves g.sent l code ls) h
+      (message_lawful g.moves g.sent l.addr (what.User l.code l.channel (record { items = code ∷ [] }) (record { items = ls })) e.link.addr refl (e.link.channel, omega arith, few, all))
 
   answers_over_lawful : (g : Managing) (o : Option Link) (code : ℕ) (ls : List Link) → IsLawfulManager g → IfSome o IsLawfulEnclosed → length ls ≤ 4 → All IsLawfulEnclosed ls → IsLawfulTaken (answers_over here g o code ls)
   answers_over_lawful g None code ls h e few all = (h, tt {0})
@@ -56,9 +57,9 @@ module _ (here : ℕ) (machine : here < 16) where
       → IsLawfulTaken (asks here g kind to w o)
   asks_lawful g kind to w o h a k l e =
       let r : Pending = record { n = g.sent; kind = kind; answer = o } in
-      sends_lawful (with_pending g r) (message_to here g.sent to w)
-      (record { children = h.children; pending = All-push IsLawfulPending g.pending r h.pending e; machines = h.machines })
-      (message_lawful g.sent to w a k l)
+      sends_lawful (with_pending g r) (message_to here g.moves g.sent to w)
+      (record { children = h.children; pending = All-push IsLawfulPending g.pending r h.pending e; board = h.board; machines = h.machines })
+      (message_lawful g.moves g.sent to w a k l)
 
   asks_for_lawful : (g : Managing) (m image : ℕ) (l : Link) (ls : List Link) → IsLawfulManager g → m ≤ 15 → length ls ≤ 3 → All IsLawfulEnclosed (l ∷ ls) → IsLawfulTaken (asks_for here g m image l ls)
   asks_for_lawful g m image l ls h lt few e =
@@ -87,9 +88,9 @@ module _ (here : ℕ) (machine : here < 16) where
   control_by b c d = if b then Some what.Stop else if c then Some what.Resume else if d then Some what.Kill else None
 
   control_lawful : (g : Managing) (a : Addr) (b c d : Bool) (ls : List Link) → IsLawfulManager g → IsLawfulAddr a → All IsLawfulEnclosed ls → IsLawfulTaken (controls_child here g a (control_by b c d) ls)
-  control_lawful g a true c d ls h k e = sends_lawful g (message_to here g.sent a what.Stop) h (message_lawful g.sent a what.Stop k refl (tt {0}))
-  control_lawful g a false true d ls h k e = sends_lawful g (message_to here g.sent a what.Resume) h (message_lawful g.sent a what.Resume k refl (tt {0}))
-  control_lawful g a false false true ls h k e = sends_lawful g (message_to here g.sent a what.Kill) h (message_lawful g.sent a what.Kill k refl (tt {0}))
+  control_lawful g a true c d ls h k e = sends_lawful g (message_to here g.moves g.sent a what.Stop) h (message_lawful g.moves g.sent a what.Stop k refl (tt {0}))
+  control_lawful g a false true d ls h k e = sends_lawful g (message_to here g.moves g.sent a what.Resume) h (message_lawful g.moves g.sent a what.Resume k refl (tt {0}))
+  control_lawful g a false false true ls h k e = sends_lawful g (message_to here g.moves g.sent a what.Kill) h (message_lawful g.moves g.sent a what.Kill k refl (tt {0}))
   control_lawful g a false false false ls h k e = bad_lawful g ls h e
 
   first_lawful : (ls : List Link) → All IsLawfulEnclosed ls → IfSome (first_link ls) IsLawfulEnclosed
@@ -142,10 +143,10 @@ module _ (here : ℕ) (machine : here < 16) where
       (all_front IsLawfulPending r (without_pending n rs) (all_head IsLawfulPending r rs h) (others_lawful n rs (all_tail IsLawfulPending r rs h)))
 
   settled_lawful : (g : Managing) (n : ℕ) → IsLawfulManager g → IsLawfulManager (settled g n)
-  settled_lawful g n h = record { children = h.children; pending = others_lawful n g.pending h.pending; machines = h.machines }
+  settled_lawful g n h = record { children = h.children; pending = others_lawful n g.pending h.pending; board = h.board; machines = h.machines }
 
-  control_link_lawful : (n : ℕ) → IsLawfulEnclosed (control_link here n)
-  control_link_lawful n = record {
+  control_link_lawful : (moves n : ℕ) → IsLawfulEnclosed (control_link here moves n)
+  control_link_lawful moves n = record {
     link = record { addr = record { home = omega arith; at = omega (arith, machine) }; channel = omega arith; area = omega arith };
     not_to_kernel = refl;
   }
@@ -154,12 +155,12 @@ module _ (here : ℕ) (machine : here < 16) where
   created_lawful g n p None t e h m k = absurd (cc e)
   created_lawful g n p (Some r) t e h m k =
       let left : Managing = record (settled g n) { children = g.children ++ at_home p ∷ [] } in
-      let control : Link = control_link here (length g.children + 1) in
+      let control : Link = control_link here g.moves (length g.children + 1) in
       let same : answers_over here left r.answer 0 (control ∷ []) ≡ t = cc e in
       let s = settled_lawful g n h in
       subst IsLawfulTaken same (answers_over_lawful left r.answer 0 (control ∷ [])
-      (record { children = All-push IsLawfulAddr g.children (at_home p) h.children (record { home = m; at = m }); pending = s.pending; machines = s.machines })
-      k (omega arith) (all_front IsLawfulEnclosed control [] (control_link_lawful (length g.children + 1)) (all_none IsLawfulEnclosed)))
+      (record { children = All-push IsLawfulAddr g.children (at_home p) h.children (record { home = m; at = m }); pending = s.pending; board = s.board; machines = s.machines })
+      k (omega arith) (all_front IsLawfulEnclosed control [] (control_link_lawful g.moves (length g.children + 1)) (all_none IsLawfulEnclosed)))
 
   no_room_lawful : (g : Managing) (n : ℕ) (o : Option Pending) (t : Taken) → takes_no_room here g n o ≡ Some t → IsLawfulManager g → IfSome o IsLawfulPending → IsLawfulTaken t
   no_room_lawful g n None t e h k = absurd (cc e)
@@ -215,10 +216,18 @@ answer_lawful : (about : Pid) (at moves : ℕ) (o : Option Link) → IsMachine a
 answer_lawful about at moves None m l = l
 answer_lawful about at moves (Some x) m l = link_lawful about at moves x m l
 
+board_either : (behind : Bool) (at moves : ℕ) (a : Addr) → IsMachine at → IsAddressOf switchboard a → IsAddressOf switchboard (if behind then relocated at moves a else a)
+board_either true at moves a m l = record { pid = l.pid; at = m }
+board_either false at moves a m l = l
+
+board_lawful : (about : Pid) (at moves : ℕ) (a : Addr) → IsMachine at → IsAddressOf switchboard a → IsAddressOf switchboard (retargeted about at moves a)
+board_lawful about at moves a m l = board_either (is_behind about moves a) at moves a m l
+
 pub retargeted_lawful : (about : Pid) (at moves : ℕ) (g : Managing) → IsMachine at → IsLawfulManager g → IsLawfulManager (retargeted_manager about at moves g)
 retargeted_lawful about at moves g m h = record {
   children = All-map IsLawfulAddr (retargeted about at moves) g.children (λ k d lt. addr_lawful about at moves _ m (h.children k d lt));
   pending = All-map IsLawfulPending (retargeted_pending about at moves) g.pending (λ k d lt. answer_lawful about at moves (get_or g.pending k d).answer m (h.pending k d lt));
+  board = board_lawful about at moves g.board m h.board;
   machines = h.machines;
 }
 
@@ -245,6 +254,7 @@ starting_lawful : (b : Boot) → IsValid b → IsLawfulManager (starting b)
 starting_lawful b v = record {
   children = starts_lawful b [] b.processes v.few_machines v.processes;
   pending = all_none IsLawfulPending;
+  board = record { pid = refl; at = omega arith };
   machines = count_within (length b.machines) v.few_machines;
 }
 
@@ -257,11 +267,15 @@ found_lawful : (p : Pid) (cs : List Addr) → All IsLawfulAddr cs → IfSome (ch
 found_lawful p [] h = tt {0}
 found_lawful p (a ∷ cs) h = either (λ o. IfSome o IsLawfulAddr) (pid_eq a.pid p) (Some a) (child_named p cs) (λ _. all_head IsLawfulAddr a cs h) (found_lawful p cs (all_tail IsLawfulAddr a cs h))
 
-told_lawful : (id : MsgId) (m : ℕ) (o : Option Addr) → IsMachine m → IsMachine id.from.home → id.answer ≡ false → IfSome o IsLawfulAddr → IfOk (tells_to_move id m o) IsLawfulMessage
-told_lawful id m None k h a l = tt {0}
-told_lawful id m (Some c) k h a l = record { from = h; answer = a; to = l; sender = record { home = omega arith; at = omega arith }; what = k }
+told_lawful : (here moves : ℕ) (id : MsgId) (m : ℕ) (o : Option Addr) → IsMachine here → IsMachine m → IsMachine id.from.home → id.answer ≡ false → IfSome o IsLawfulAddr → IfOk (tells_to_move here moves id m o) IsLawfulMessage
+told_lawful here moves id m None machine k h a l = tt {0}
+told_lawful here moves id m (Some c) machine k h a l = record { from = h; answer = a; to = l; sender = record { home = omega arith; at = machine }; what = k }
 
-pub moves_lawful : (cs : List Addr) (p : Pid) (m : ℕ) (id : MsgId) → All IsLawfulAddr cs → IsMachine m → IsMachine id.from.home → id.answer ≡ false → IfOk (moves_child cs p m id) IsLawfulMessage
-moves_lawful cs p m id all k h a =
-    either (λ r. IfOk r IsLawfulMessage) (pid_eq p switchboard || pid_eq p manager) (Err no.Pinned) (tells_to_move id m (child_named p cs)) (λ _. tt {0})
-    (told_lawful id m (child_named p cs) k h a (found_lawful p cs all))
+known_lawful : (here : ℕ) (g : Managing) (p : Pid) → IsMachine here → IsLawfulManager g → IfSome (known_address here g p) IsLawfulAddr
+known_lawful here g p machine l =
+    either (λ o. IfSome o IsLawfulAddr) (pid_eq p switchboard) (Some g.board) (if pid_eq p manager then Some (address_at here g.moves) else child_named p g.children)
+    (λ _. record { home = omega (arith, ap (λ (q : Pid). q.home) l.board.pid); at = l.board.at })
+    (either (λ o. IfSome o IsLawfulAddr) (pid_eq p manager) (Some (address_at here g.moves)) (child_named p g.children) (λ _. record { home = omega arith; at = machine }) (found_lawful p g.children l.children))
+
+pub moves_lawful : (here : ℕ) (g : Managing) (p : Pid) (m : ℕ) (id : MsgId) → IsLawfulManager g → IsMachine here → IsMachine m → IsMachine id.from.home → id.answer ≡ false → IfOk (asks_to_move here g p m id) IsLawfulMessage
+moves_lawful here g p m id l machine k h a = told_lawful here g.moves id m (known_address here g p) machine k h a (known_lawful here g p machine l)

@@ -4,4 +4,7 @@ pub mod Following
 pub mod Hearing
 pub mod Plain
 pub mod Lawful
+pub mod Packed
 pub mod Naming
+pub mod Loops
+pub mod Worked

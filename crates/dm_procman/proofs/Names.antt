@@ -37,7 +37,7 @@ pub use Rattle.dm_onekernel.specs.declared.request.PendingKind.{PendingKind}
 pub use Rattle.dm_procman.specs.Lawful.{IsLawfulManager, IsLawfulPending}
 pub use Rattle.dm_procman.specs.Making.{answer_over, control_link, message_to}
 pub use Rattle.dm_procman.specs.Managing.{Managing, at_home, child_at_home, pending_is_behind, plain_child, plain_manager, plain_pending, retargeted_manager, retargeted_pending, starting}
-pub use Rattle.dm_procman.specs.Moving.{child_named, moves_child, tells_to_move}
+pub use Rattle.dm_procman.specs.Moving.{child_named, tells_to_move, known_address, asks_to_move}
 pub use Rattle.dm_procman.specs.Named.{place_named}
 pub use Rattle.dm_procman.specs.Plainly.{plain_taken, plainly_taken}
 pub use Rattle.dm_procman.specs.Taking.{IsForManager, Taken, answers, answers_over, asks, asks_for, bad_request, child_address, controls, controls_child, first_link, has_number, pending_request, requests, sends, settled, takes}

@@ -1,7 +1,7 @@
 -- The manager's table and that of the kernel without machines.
 use Rattle.dm_procman.proofs.Names.{◌≡◌, ℕ, zero, suc, ◌+◌, ◌*◌, Bool, true, false, ◌==◌, ◌&&◌, nat_lt, if◌then◌else◌, List, [], ◌∷◌, ◌++◌, length, map, refl, sym, ap, ◌∙◌, arith, length-map, slice_get-map, Option, Result, Ok, Err, IfOk}
 use Rattle.dm_procman.proofs.Names.{option_map, Pid, Addr, Link, retargeted, retargeted_link, PlainLink, plain_link, NoMemory, Message, What, plain_message, plain_what, with_what, Pending, Managing, at_home, plain_child, plain_manager}
-use Rattle.dm_procman.proofs.Names.{plain_pending, retargeted_manager, retargeted_pending, control_link, plain_taken, plainly_taken, Taken, answers, asks_for, bad_request, child_address, controls, controls_child, pending_request, requests}
+use Rattle.dm_procman.proofs.Names.{plain_pending, retargeted_manager, retargeted_pending, control_link, plain_taken, plainly_taken, Taken, asks_for, bad_request, child_address, controls, controls_child, pending_request, requests}
 use Rattle.dm_procman.proofs.Names.{settled, takes, takes_created, takes_no_room, takes_user, wants_child, without_pending, kernel_at, Outcome, code_of_outcome, PendingKind, message_to, answers_over, asks, first_link, takes_moved}
 use Rattle.dm_procman.proofs.Names.{wants_move, option_map_or, slice_get}
 use Rattle.std.specs.declared.option.Option.TheVariants.{None, Some}
@@ -55,7 +55,7 @@ module _ (here : ℕ) where
       → plainly (asks here g kind to w o) ≡ Some (one.sends_request (plain_manager g) kind to.pid pw (option_map plain_link o))
   plain_asks g kind to w o pw is =
       let t : one.ManagerTook = one.sends_request (plain_manager g) kind to.pid pw (option_map plain_link o) in
-      λ i. Some (record { manager = record t.manager { pending = plain_push g.pending (record { n = g.sent; kind = kind; answer = o }) i }; message = with_what (message_to here g.sent to w) (is i) })
+      λ i. Some (record { manager = record t.manager { pending = plain_push g.pending (record { n = g.sent; kind = kind; answer = o }) i }; message = with_what (message_to here g.moves g.sent to w) (is i) })
 
   plain_asks_for : (g : Managing) (m image : ℕ) (l : Link) (ls : List Link) → plainly (asks_for here g m image l ls) ≡ Some (one.asks_for (plain_manager g) m image (plain_link l) (map plain_link ls))
   plain_asks_for g m image l ls = plain_asks g wanted.Create (kernel_at m) (what.Create image (record { items = ls })) (Some l) (plain.Create image (map plain_link ls)) refl
@@ -131,7 +131,7 @@ module _ (here : ℕ) where
   plain_created g n p None t e = absurd (cc e)
   plain_created g n p (Some r) t e =
       let left : Managing = record (settled g n) { children = g.children ++ at_home p ∷ [] } in
-      let control : Link = control_link here (length g.children + 1) in
+      let control : Link = control_link here g.moves (length g.children + 1) in
       let same : answers_over here left r.answer 0 (control ∷ []) ≡ t = cc e in
       ap plainly (sym same) ∙ plain_over left r.answer 0 (control ∷ [])
       ∙ (λ i. plain_answers (plain_bear g.children (at_home p) i) (plain_without n g.pending i) g.sent r.answer 0 (one.control_link (sym (length-map g.children plain_child) i + 1) ∷ []))

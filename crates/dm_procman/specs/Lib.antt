@@ -6,3 +6,4 @@ pub mod Moving
 pub mod Named
 pub mod Plainly
 pub mod Lawful
+pub mod Packed

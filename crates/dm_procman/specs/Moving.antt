@@ -1,5 +1,5 @@
 -- What the process manager does where a child is to move to another machine.
-use Rattle.std.specs.Prelude.{ℕ, ◌||◌, if◌then◌else◌, List}
+use Rattle.std.specs.Prelude.{ℕ, if◌then◌else◌, List}
 use Rattle.std.specs.List.{find}
 use Rattle.std.specs.declared.option.Option.{Option}
 use Rattle.std.specs.declared.option.Option.TheVariants.{None, Some}
@@ -15,17 +15,20 @@ use Rattle.dm_onekernel.specs.Boot.{manager, switchboard}
 use Rattle.dm_procman.specs.declared.moving.MoveError.{MoveError}
 use Rattle.dm_procman.specs.declared.moving.MoveError.TheVariants as no
 use Rattle.dm_procman.specs.Making.{address_at}
+use Rattle.dm_procman.specs.Managing.{Managing}
 
 -- the address of the child of this name
 abbrev pub child_named : Pid → List Addr → Option Addr
 child_named p children = find (λ a. pid_eq a.pid p) children
 
--- the message that tells it to move
-abbrev pub tells_to_move : MsgId → ℕ → Option Addr → Result Message MoveError
-tells_to_move id machine None = Err no.Unknown
-tells_to_move id machine (Some child) = Ok (record { id = id; to = child; sender = address_at 0; what = what.Migrate machine })
+-- the address of what is told to move, as the manager on machine `here` has it: that of the switchboard, its own, or a child's
+abbrev pub known_address : ℕ → Managing → Pid → Option Addr
+known_address here g p = if pid_eq p switchboard then Some g.board else if pid_eq p manager then Some (address_at here g.moves) else child_named p g.children
 
--- the servers don't move, and others that aren't children are unknown
-abbrev pub moves_child : List Addr → Pid → ℕ → MsgId → Result Message MoveError
-moves_child children p machine id =
-    if pid_eq p switchboard || pid_eq p manager then Err no.Pinned else tells_to_move id machine (child_named p children)
+-- the message that tells it to move, from a manager on machine `here` that has moved so often; of others nothing is known
+abbrev pub tells_to_move : ℕ → ℕ → MsgId → ℕ → Option Addr → Result Message MoveError
+tells_to_move here moves id machine None = Err no.Unknown
+tells_to_move here moves id machine (Some to) = Ok (record { id = id; to = to; sender = address_at here moves; what = what.Migrate machine })
+
+abbrev pub asks_to_move : ℕ → Managing → Pid → ℕ → MsgId → Result Message MoveError
+asks_to_move here g p machine id = tells_to_move here g.moves id machine (known_address here g p)

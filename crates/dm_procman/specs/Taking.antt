@@ -29,7 +29,7 @@ sends g m = record { manager = record g { sent = g.sent + 1 }; message = Some m 
 
 -- one byte goes over the link of an answer
 abbrev pub answers : ℕ → Managing → Link → ℕ → List Link → Taken
-answers here g l code links = sends g (answer_over here g.sent l code links)
+answers here g l code links = sends g (answer_over here g.moves g.sent l code links)
 
 -- so it does where there is a link for the answer
 abbrev pub answers_over : ℕ → Managing → Option Link → ℕ → List Link → Taken
@@ -51,7 +51,7 @@ abbrev pub with_pending : Managing → Pending → Managing
 with_pending g r = record g { pending = g.pending ++ r ∷ [] }
 
 abbrev pub asks : ℕ → Managing → PendingKind → Addr → What → Option Link → Taken
-asks here g kind to w answer = sends (with_pending g (record { n = g.sent; kind = kind; answer = answer })) (message_to here g.sent to w)
+asks here g kind to w answer = sends (with_pending g (record { n = g.sent; kind = kind; answer = answer })) (message_to here g.moves g.sent to w)
 
 -- a process is to be made: the request goes to the kernel of its machine
 abbrev pub asks_for : ℕ → Managing → ℕ → ℕ → Link → List Link → Taken
@@ -76,7 +76,7 @@ control_of operation =
 
 abbrev pub controls_child : ℕ → Managing → Addr → Option What → List Link → Taken
 controls_child here g child None links = bad_request here g links
-controls_child here g child (Some w) links = sends g (message_to here g.sent child w)
+controls_child here g child (Some w) links = sends g (message_to here g.moves g.sent child w)
 
 -- operation 5: the child is to move to a machine that there is; the answer goes over the first link, if there is one
 abbrev pub wants_move : ℕ → Managing → Addr → ℕ → List Link → Taken
@@ -119,7 +119,7 @@ settled g n = record g { pending = without_pending n g.pending }
 abbrev pub takes_created : ℕ → Managing → ℕ → Pid → Option Pending → Option Taken
 takes_created here g n child None = None
 takes_created here g n child (Some r) =
-    Some (answers_over here (record (settled g n) { children = g.children ++ at_home child ∷ [] }) r.answer 0 (control_link here (length g.children + 1) ∷ []))
+    Some (answers_over here (record (settled g n) { children = g.children ++ at_home child ∷ [] }) r.answer 0 (control_link here g.moves (length g.children + 1) ∷ []))
 
 -- there was no room for it
 abbrev pub takes_no_room : ℕ → Managing → ℕ → Option Pending → Option Taken

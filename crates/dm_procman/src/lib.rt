@@ -2,15 +2,16 @@
 //! as it is told (1983).
 #![tactic(auto)]
 
-ghost use Rattle.std.specs.Prelude.{◌≡◌, ◌+◌, ◌<◌, ◌≤◌, ◌^◌, false, IfOk, IfSome, IsSome, OnErr, Some, count_by, length};
+ghost use Rattle.std.specs.Prelude.{◌≡◌, ◌+◌, ◌<◌, ◌≤◌, ◌^◌, false, IfOk, IfSome, IsSome, Ok, OnErr, Some, length};
 ghost use Rattle.dm_link.specs.Lawful.{IsMachine};
-ghost use Rattle.dm_link.specs.Places.{is_behind};
 ghost use Rattle.dm_message.specs.Lawful.{IsLawfulMessage};
 ghost use Rattle.dm_message.specs.Plain.{plain_message};
+ghost use Rattle.dm_statebytes.specs.Servers.{Gives, IsUnpacked};
 ghost use Rattle.dm_onekernel.specs.Boot.{IsValid};
 ghost use Rattle.dm_procman.specs.Lawful.{IsLawfulManager};
-ghost use Rattle.dm_procman.specs.Managing.{pending_is_behind, plain_manager, retargeted_manager, starting};
-ghost use Rattle.dm_procman.specs.Moving.{moves_child};
+ghost use Rattle.dm_procman.specs.Managing.{Managing, behind_in, plain_manager, retargeted_manager, starting};
+ghost use Rattle.dm_procman.specs.Moving.{asks_to_move, known_address};
+ghost use Rattle.dm_procman.specs.Packed.{IsSpelledManager, manager_of_bytes, manager_spelling};
 ghost use Rattle.dm_procman.specs.Plainly.{plain_taken, plainly_taken};
 ghost use Rattle.dm_procman.specs.Taking.{IsForManager, answers_over, takes, takes_created, takes_moved, takes_no_room, takes_user, pending_request};
 
@@ -18,31 +19,40 @@ mod children;
 mod making;
 mod moving;
 mod pending;
+mod reading;
 mod requests;
 mod starting;
+mod writing;
 
 use children::Children;
-use dm_link::{Addr, Link, MACHINES, Pid};
+use dm_link::{Addr, Link, MACHINES, MANAGER, Pid, SWITCHBOARD};
 use dm_memory::NoMemory;
 use dm_message::{MOST_LINKS, Message, MsgId, Outcome, What};
 use dm_onekernel::Boot;
-use making::{answer_over, control_link};
+pub use dm_statebytes::server::ServerError;
+use making::{address_at, answer_over, control_link};
 pub use moving::MoveError;
-use moving::{move_child, retarget_pending};
+use moving::{move_message, retarget_pending};
 pub use pending::Pending;
 use pending::take_pending;
+use reading::manager_at;
 use std::alloc::Global;
 use std::marker::Model;
+use writing::manager_bytes;
 
 /// The processes that were made, and the requests to make one, and to move one, that wait for an answer.
 ///
-/// Its model is a record of the children's addresses, child 1 first, the pending requests, the number of messages that
-/// were sent, and how many machines and images there are.
+/// Its model is a record of the children's addresses, child 1 first, the pending requests, where the switchboard is, the
+/// number of messages that were sent, that of its moves, and how many machines and images there are.
 #[derive(Drop)]
 pub struct ProcMan {
     children: Children,
     pending: Vec<Pending>,
+    /// Where the switchboard was last known to be.
+    board: Addr,
     sent: u32,
+    /// How often the manager has moved to another machine.
+    moves: u32,
     machines: u8,
     images: u16,
 }
@@ -52,7 +62,7 @@ impl Model for ProcMan {
 
     ghost Value = { Managing };
 
-    ghost view = { λ g. record { children = g.children; pending = g.pending.items; sent = g.sent; machines = g.machines; images = g.images } };
+    ghost view = { λ g. record { children = g.children; pending = g.pending.items; board = g.board; sent = g.sent; moves = g.moves; machines = g.machines; images = g.images } };
 }
 
 impl ProcMan {
@@ -73,7 +83,13 @@ impl ProcMan {
         Ok(ProcMan {
             children: starting::children_of(alloc, boot)?,
             pending: Vec::new(alloc),
+            board: Addr {
+                pid: SWITCHBOARD,
+                at: 0,
+                moves: 0,
+            },
             sent: 0,
+            moves: 0,
             machines: boot.machines.len() as u8,
             images: boot.images.len() as u16,
         })
@@ -98,6 +114,23 @@ impl ProcMan {
         ensures { result ≡ self.now.sent }
     {
         self.sent
+    }
+
+    /// How often it has moved.
+    pub fn moves(&self) -> u32
+        ensures { result ≡ self.now.moves }
+    {
+        self.moves
+    }
+
+    /// It has moved once more. It takes no memory.
+    pub fn moved(&mut self)
+        requires { self.old.moves < u32.MAX }
+        ensures manager { self.new ≡ record self.old { moves = self.old.moves + 1 } }
+        ensures plain { plain_manager self.new ≡ plain_manager self.old }
+        ensures lawful { IsLawfulManager self.old → IsLawfulManager self.new }
+    {
+        self.moves += 1;
     }
 
     /// Takes a user message, or the answer to a pending request, on machine `here`; the message that it sends, if any.
@@ -174,7 +207,7 @@ impl ProcMan {
         };
         self.children.push(child)?;
         let request = take_pending(&mut self.pending, number);
-        let control = control_link(here, self.children.len() as u32);
+        let control = control_link(here, self.moves, self.children.len() as u32);
         Ok(self.answer_pending(here, request, 0, &[control]))
     }
 
@@ -215,20 +248,34 @@ impl ProcMan {
         Some(self.answer(here, &link, code, links))
     }
 
-    /// The message that tells a child to move to machine `to`, under the name `id`.
-    pub fn ask_move(&self, pid: Pid, to: u8, id: MsgId) -> Result<Message, MoveError>
-        ensures exact { result ≡ moves_child self.now.children pid to id }
-        ensures lawful { IsLawfulManager self.now → IsMachine to → IsMachine id.from.home → id.answer ≡ false → IfOk result IsLawfulMessage }
+    /// The message that tells a child, the switchboard or the manager itself to move to machine `to`, under the name `id`, from
+    /// machine `here`, where the manager is.
+    pub fn ask_move(&self, here: u8, pid: Pid, to: u8, id: MsgId) -> Result<Message, MoveError>
+        ensures exact { result ≡ asks_to_move here self.now pid to id }
+        ensures lawful { IsLawfulManager self.now → IsMachine here → IsMachine to → IsMachine id.from.home → id.answer ≡ false → IfOk result IsLawfulMessage }
     {
-        move_child(&self.children, pid, to, id)
+        move_message(here, self.moves, id, to, self.address_of(here, pid))
     }
 
-    /// Sets the children's addresses and the links for answers that lead to a process and know fewer moves of it than
-    /// these to where it is; answers how many changed.
+    /// Where the manager, on machine `here`, knows a child, the switchboard or itself to be.
+    fn address_of(&self, here: u8, pid: Pid) -> Option<Addr>
+        ensures { result ≡ known_address here self.now pid }
+    {
+        if pid == SWITCHBOARD {
+            Some(self.board)
+        } else if pid == MANAGER {
+            Some(address_at(here, self.moves))
+        } else {
+            self.children.named(pid)
+        }
+    }
+
+    /// Sets the addresses of the children and of the switchboard, and the links for answers, that lead to a process and know
+    /// fewer moves of it than these to where it is; answers how many changed.
     pub fn retarget(&mut self, about: Pid, at: u8, moves: u32) -> u32
         requires { length self.old.children + length self.old.pending < 2 ^ 31 }
         ensures manager { self.new ≡ retargeted_manager about at moves self.old }
-        ensures changed { result ≡ count_by (is_behind about moves) self.old.children + count_by (pending_is_behind about moves) self.old.pending }
+        ensures changed { result ≡ behind_in about moves self.old }
         ensures plain { plain_manager self.new ≡ plain_manager self.old }
         ensures lawful { IsMachine at → IsLawfulManager self.old → IsLawfulManager self.new }
     {
@@ -239,9 +286,48 @@ impl ProcMan {
     fn follow(&mut self, about: Pid, at: u8, moves: u32) -> u32
         requires { length self.old.children + length self.old.pending < 2 ^ 31 }
         ensures manager { self.new ≡ retargeted_manager about at moves self.old }
-        ensures changed { result ≡ count_by (is_behind about moves) self.old.children + count_by (pending_is_behind about moves) self.old.pending }
+        ensures changed { result ≡ behind_in about moves self.old }
     {
-        self.children.retarget(about, at, moves)
-            + retarget_pending(self.pending.as_mut_slice(), about, at, moves)
+        let behind = self.board.retarget(about, at, moves);
+        let changed = self.children.retarget(about, at, moves)
+            + retarget_pending(self.pending.as_mut_slice(), about, at, moves);
+        if behind { 1 + changed } else { changed }
+    }
+
+    /// The manager as bytes, what a machine hands on when it moves; how many machines and images there are isn't among them.
+    pub fn pack(&self, alloc: Global) -> Result<Vec<u8>, NoMemory>
+        requires few { length self.now.children + length self.now.pending < 2 ^ 31 }
+        requires lawful { IsLawfulManager self.now }
+        ensures ok { IfOk result (λ v. v.items ≡ manager_spelling self.now) }
+        // What is packed is unpacked to the same manager.
+        ensures again { IfOk result (λ v. manager_of_bytes self.now.machines self.now.images v.items ≡ Ok self.now) }
+    {
+        let children = self.children.as_slice();
+        let pending = self.pending.as_slice();
+        manager_bytes(
+            alloc,
+            children,
+            self.board,
+            pending,
+            (self.sent, self.moves),
+        )
+    }
+
+    /// The manager of so many machines and images that the bytes spell, all of them, or the first rule from the left that they
+    /// break, or want of memory.
+    pub fn unpack(
+        alloc: Global,
+        bytes: &[u8],
+        machines: u8,
+        images: u16,
+    ) -> Result<ProcMan, ServerError>
+        // Which manager, and which rule.
+        ensures exact { IsUnpacked result (manager_of_bytes machines images bytes.now) }
+        // What is read is lawful, and spelled so and in no other way.
+        ensures found { machines ≤ 16 → IfOk result (λ g. IsSpelledManager machines images g × (bytes.now ≡ manager_spelling g)) }
+        // What is spelled so is read, unless memory lacks.
+        ensures only { (g : Managing) → IsSpelledManager machines images g → bytes.now ≡ manager_spelling g → Gives result g }
+    {
+        manager_at(alloc, bytes, machines, images)
     }
 }

@@ -5,20 +5,20 @@ ghost use Rattle.dm_procman.specs.Making.{address_at, answer_over, control_link,
 use dm_link::{Addr, Area, Kind, Link, MANAGER};
 use dm_message::{Body, Enclosed, MOST_LINKS, Message, MsgId, What};
 
-/// The manager on machine `here`.
-pub fn address_at(here: u8) -> Addr
-    ensures { result ≡ address_at here }
+/// The manager on machine `here`, where it came after so many moves.
+pub fn address_at(here: u8, moves: u32) -> Addr
+    ensures { result ≡ address_at here moves }
 {
     Addr {
         pid: MANAGER,
         at: here,
-        moves: 0,
+        moves,
     }
 }
 
-/// The manager's message of this number from machine `here` to a process or a kernel.
-pub fn message_to(here: u8, number: u32, to: Addr, what: What) -> Message
-    ensures { result ≡ message_to here number to what }
+/// The manager's message of this number from machine `here`, where it came after so many moves, to a process or a kernel.
+pub fn message_to(here: u8, moves: u32, number: u32, to: Addr, what: What) -> Message
+    ensures { result ≡ message_to here moves number to what }
 {
     Message {
         id: MsgId {
@@ -27,15 +27,22 @@ pub fn message_to(here: u8, number: u32, to: Addr, what: What) -> Message
             answer: false,
         },
         to,
-        sender: address_at(here),
+        sender: address_at(here, moves),
         what,
     }
 }
 
 /// The manager's message of this number from machine `here` over a link: one byte, with at most 4 links.
-pub fn answer_over(here: u8, number: u32, link: &Link, code: u8, links: &[Link]) -> Message
+pub fn answer_over(
+    here: u8,
+    moves: u32,
+    number: u32,
+    link: &Link,
+    code: u8,
+    links: &[Link],
+) -> Message
     requires { length links.now ≤ MOST_LINKS }
-    ensures { result ≡ answer_over here number link.now code links.now }
+    ensures { result ≡ answer_over here moves number link.now code links.now }
 {
     let mut body = Body::new();
     body.push(code);
@@ -47,15 +54,15 @@ pub fn answer_over(here: u8, number: u32, link: &Link, code: u8, links: &[Link])
         body,
         links: enclosed,
     };
-    message_to(here, number, link.addr, what)
+    message_to(here, moves, number, link.addr, what)
 }
 
 /// The link by which a child is controlled, to the manager on machine `here`; its code is the child's number, from 1.
-pub fn control_link(here: u8, child: u32) -> Link
-    ensures { result ≡ control_link here child }
+pub fn control_link(here: u8, moves: u32, child: u32) -> Link
+    ensures { result ≡ control_link here moves child }
 {
     Link {
-        addr: address_at(here),
+        addr: address_at(here, moves),
         kind: Kind::General,
         to_kernel: false,
         code: child,

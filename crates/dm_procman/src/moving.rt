@@ -2,36 +2,37 @@
 ghost use Rattle.std.specs.Prelude.{◌≡◌, ◌<◌, ◌^◌, count_by, length, map};
 ghost use Rattle.dm_link.specs.Places.{is_behind, retargeted};
 ghost use Rattle.dm_procman.specs.Managing.{pending_is_behind, retargeted_pending};
-ghost use Rattle.dm_procman.specs.Moving.{moves_child};
+ghost use Rattle.dm_procman.specs.Moving.{tells_to_move};
 
 use crate::Pending;
-use crate::children::Children;
 use crate::making::address_at;
-use dm_link::{Addr, MANAGER, Pid, SWITCHBOARD};
+use dm_link::{Addr, Pid};
 use dm_message::{Message, MsgId, What};
 use thiserror::Error;
 
-/// Why no process is told to move.
+/// Why nothing is told to move.
 #[derive(Clone, Copy, Debug, Error)]
 pub enum MoveError {
     #[error("it is no child of the manager")]
     Unknown,
-    #[error("servers don't move")]
-    Pinned,
 }
 
-/// The message that tells a child to move to machine `to`, under the name `id`.
-pub fn move_child(children: &Children, pid: Pid, to: u8, id: MsgId) -> Result<Message, MoveError>
-    ensures { result ≡ moves_child children.now pid to id }
+/// The message that tells what is at an address to move to machine `to`, under the name `id`, from a manager on machine `here` that
+/// has moved so often.
+pub fn move_message(
+    here: u8,
+    moves: u32,
+    id: MsgId,
+    to: u8,
+    address: Option<Addr>,
+) -> Result<Message, MoveError>
+    ensures { result ≡ tells_to_move here moves id to address }
 {
-    if pid == SWITCHBOARD || pid == MANAGER {
-        return Err(MoveError::Pinned);
-    }
-    match children.named(pid) {
-        Some(child) => Ok(Message {
+    match address {
+        Some(address) => Ok(Message {
             id,
-            to: child,
-            sender: address_at(0),
+            to: address,
+            sender: address_at(here, moves),
             what: What::Migrate { machine: to },
         }),
         None => Err(MoveError::Unknown),

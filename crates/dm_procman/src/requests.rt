@@ -58,9 +58,9 @@ impl ProcMan {
     /// Counts a message as sent.
     fn send(&mut self, here: u8, to: Addr, what: What) -> Message
         requires { self.old.sent < u32.MAX }
-        ensures { record { manager = self.new; message = Some result } ≡ sends self.old (message_to here self.old.sent to what) }
+        ensures { record { manager = self.new; message = Some result } ≡ sends self.old (message_to here self.old.moves self.old.sent to what) }
     {
-        let message = message_to(here, self.sent, to, what);
+        let message = message_to(here, self.moves, self.sent, to, what);
         self.sent += 1;
         message
     }
@@ -71,7 +71,7 @@ impl ProcMan {
         requires links { length links.now ≤ MOST_LINKS }
         ensures { record { manager = self.new; message = Some result } ≡ answers here self.old link.now code links.now }
     {
-        let message = answer_over(here, self.sent, link, code, links);
+        let message = answer_over(here, self.moves, self.sent, link, code, links);
         self.sent += 1;
         message
     }

@@ -1,6 +1,6 @@
 -- What is packed of a lawful process is lawful, and so is a process that is made of it.
-use Rattle.dm_statebytes.proofs.Names.{◌≡◌, ℕ, zero, suc, ◌*◌, ◌/◌, ◌≤◌, List, length, Option, None, refl, sym, ap, subst, ◌∙◌, arith, ◌⊎◌, All, AllByRecursion, replicate, length-replicate, All-from_recursion, IsMachine, Pid, Link, Message}
-use Rattle.dm_statebytes.proofs.Names.{IsLawfulMessage, begun_process, IsLawfulProcess, IsLawfulStatus, SlotIsLawful, Process, Shell, IsLawfulShell, shell_of}
+use Rattle.dm_statebytes.proofs.Names.{◌≡◌, ℕ, ◌*◌, ◌/◌, ◌≤◌, length, refl, sym, ap, subst, ◌∙◌, arith}
+use Rattle.dm_statebytes.proofs.Names.{IsLawfulProcess, IsLawfulStatus, Process, IsLawfulShell, shell_of}
 
 pub shell_is_lawful : (p : Process) → IsLawfulProcess p → IsLawfulShell (length p.table) (shell_of p)
 shell_is_lawful p lawful =

@@ -5,4 +5,5 @@ pub mod Shells
 pub mod Loops
 pub mod Sizes
 pub mod Lawful
+pub mod Servers
 pub mod Worked

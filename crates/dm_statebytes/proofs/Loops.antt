@@ -1,6 +1,6 @@
 -- Reading and writing place by place, as the loops of the code do.
 use Rattle.dm_statebytes.proofs.Names.{◌≡◌, ℕ, suc, ◌+◌, ◌-◌, ◌/◌, ◌%◌, ◌^◌, ◌<◌, ◌≤◌, true, false, eqb, List, [], ◌∷◌, ◌++◌, length, set, take, drop, Option, None, Some, Result, Ok, Err, refl, sym, ap, subst, ◌∙◌, append_assoc, arith}
-use Rattle.dm_statebytes.proofs.Names.{◌==◌, All, flat_map, pow-le-pow_right, eq-eqb, nat_tests, common_steps, take_at_read, append-nil, length-drop, take_all, take_more_set, Link, link_at, PacketError, ◌>>=◌, link, with_front, all_next}
+use Rattle.dm_statebytes.proofs.Names.{◌==◌, All, flat_map, pow-le-pow_right, eq-eqb, nat_tests, common_steps, take_at_read, append-nil, length-drop, take_more_set, Link, link_at, PacketError, ◌>>=◌, link, with_front, all_next}
 use Rattle.dm_statebytes.proofs.Names.{pieces_next, then_put, held_if, mask_of, read_slots, spell_slot, FitsSlot}
 use Rattle.dm_statebytes.proofs.Tables.{mask_of-lt}
 

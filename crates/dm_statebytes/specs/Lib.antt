@@ -4,3 +4,4 @@ pub mod Shell
 pub mod Lawful
 pub mod Widths
 pub mod Rules
+pub mod Servers

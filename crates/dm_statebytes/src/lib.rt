@@ -9,6 +9,7 @@ ghost use Rattle.dm_statebytes.specs.Shell.{shell, shell_of, shell_of_bytes, she
 ghost use Rattle.dm_statebytes.specs.Widths.{FitsShell};
 
 mod reading;
+pub mod server;
 mod status;
 mod writing;
 
@@ -54,16 +55,18 @@ pub enum StateBytesError {
     /// A field's bytes are not all there.
     #[error("bytes are missing")]
     Missing,
-    /// The format's version isn't 3.
-    #[error("the version isn't 3")]
+    /// The version isn't that of the format: 3 of a process, 4 of a server.
+    #[error("another version")]
     Version,
-    /// A machine is above 15.
-    #[error("no such machine")]
+    /// A machine is above 15, or the name is another than the server's.
+    #[error("no such machine, or not the server's name")]
     Machine,
-    /// Neither stopped nor not, no such status or direction, spare flags, or a link to a kernel.
+    /// Neither stopped nor not, no such status or direction, spare flags, or a link to a kernel; of a server no such kind of request, or
+    /// neither a link for the answer nor none.
     #[error("a byte that stands for nothing, or flags that no link of a process has")]
     Flags,
-    /// A number of blocks, a channel or a range outside its limits, or a link in a slot that the table doesn't have.
+    /// A number of blocks, a channel or a range outside its limits, or a link in a slot that the table doesn't have; of a server the length
+    /// of a name, or a name that stood before.
     #[error("a number outside its limits")]
     Limit,
     /// Bytes stand after the end.

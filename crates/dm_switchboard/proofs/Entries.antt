@@ -3,7 +3,7 @@ use Rattle.dm_switchboard.proofs.Imports.{◌≡◌, ℕ, true, false, ◌==◌,
 use Rattle.std.proofs.Common.{Option, None}
 use Rattle.dm_switchboard.specs.declared.reply.Reply.TheVariants as reply
 
-eq_sym : (a b : ℕ) → (a == b) ≡ (b == a)
+pub eq_sym : (a b : ℕ) → (a == b) ≡ (b == a)
 eq_sym a b = grind arith
 
 -- the test of a map's keys
@@ -18,7 +18,7 @@ pub look_up_listed : (name : List ℕ) (es : List (ArrayVec ℕ × Link)) → lo
 look_up_listed name [] = refl
 look_up_listed name (e ∷ es) = grind (arith, same_bytes name e.0.items, look_up_listed name es)
 
-listed_push : (es : List (ArrayVec ℕ × Link)) (e : ArrayVec ℕ × Link) → listed (es ++ e ∷ []) ≡ listed es ++ named e ∷ []
+pub listed_push : (es : List (ArrayVec ℕ × Link)) (e : ArrayVec ℕ × Link) → listed (es ++ e ∷ []) ≡ listed es ++ named e ∷ []
 listed_push [] e = refl
 listed_push (x ∷ es) e = ap (λ ns. named x ∷ ns) (listed_push es e)
 

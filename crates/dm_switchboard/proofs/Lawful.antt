@@ -73,8 +73,8 @@ few_links reply.Taken = omega arith
 few_links reply.BadLink = omega arith
 few_links reply.BadRequest = omega arith
 
-answer_lawful : (here n : ℕ) (l : Link) (r : Reply) → here < 16 → IsLawfulEnclosed l → IsLawfulReply r → IsLawfulMessage (answer_over here n l r)
-answer_lawful here n l r machine e h = record {
+answer_lawful : (here moves n : ℕ) (l : Link) (r : Reply) → here < 16 → IsLawfulEnclosed l → IsLawfulReply r → IsLawfulMessage (answer_over here moves n l r)
+answer_lawful here moves n l r machine e h = record {
   from = omega arith;
   answer = refl;
   to = e.link.addr;
@@ -91,7 +91,7 @@ request_lawful here b body [] t machine is h e =
 request_lawful here b body (l ∷ ls) t machine is h e =
     let P : Taken → Type 0 = λ t. IsLawfulBoard t.board × IfSome t.took.answer IsLawfulMessage in
     let a = asks_lawful b.names body ls h (all_tail IsLawfulEnclosed l ls e) in
-    subst P is (a.0, answer_lawful here b.sent l (asks b.names body ls).reply machine (all_head IsLawfulEnclosed l ls e) a.1)
+    subst P is (a.0, answer_lawful here b.moves b.sent l (asks b.names body ls).reply machine (all_head IsLawfulEnclosed l ls e) a.1)
 
 links_lawful : (m : Message) (code channel : ℕ) (body : ArrayVec ℕ) (links : ArrayVec Link) → m.what ≡ what.User code channel body links → IsLawfulMessage m → All IsLawfulEnclosed links.items
 links_lawful m code channel body links is l = (subst IsLawfulWhat is l.what).3

@@ -3,3 +3,7 @@ pub mod Entries
 pub mod Following
 pub mod Plain
 pub mod Lawful
+pub mod Packed
+pub mod Apart
+pub mod Loops
+pub mod Worked

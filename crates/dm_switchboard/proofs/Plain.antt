@@ -78,20 +78,20 @@ plain_asks ks (operation ∷ name) ls =
     ∙ sym (done_to_both plain_asked (operation == 2) (asks_to_look_up ks name ls) (bad_request ks)))
     ∙ sym (done_to_both plain_asked (operation == 1) (asks_to_register ks name ls) (looks_or_not ks operation name ls))
 
-pub plain_answer : (here n : ℕ) (l : Link) (r : Reply) → plain_message (answer_over here n l r) ≡ Some (one.goes_over switchboard n (plain_link l) (((one.answer_row (plain_reply r)).0) ∷ []) ((one.answer_row (plain_reply r)).1))
-plain_answer here n l reply.Registered = refl
-plain_answer here n l (reply.Found k) = refl
-plain_answer here n l reply.Unknown = refl
-plain_answer here n l reply.Taken = refl
-plain_answer here n l reply.BadLink = refl
-plain_answer here n l reply.BadRequest = refl
+pub plain_answer : (here moves n : ℕ) (l : Link) (r : Reply) → plain_message (answer_over here moves n l r) ≡ Some (one.goes_over switchboard n (plain_link l) (((one.answer_row (plain_reply r)).0) ∷ []) ((one.answer_row (plain_reply r)).1))
+plain_answer here moves n l reply.Registered = refl
+plain_answer here moves n l (reply.Found k) = refl
+plain_answer here moves n l reply.Unknown = refl
+plain_answer here moves n l reply.Taken = refl
+plain_answer here moves n l reply.BadLink = refl
+plain_answer here moves n l reply.BadRequest = refl
 
 pub plain_request : (here : ℕ) (b : Board) (body : List ℕ) (ls : List Link) (t : Taken) → takes_request here b body ls ≡ t → plain_taken t.board t.took ≡ Some (one.takes_request (plain_board b) body (map plain_link ls))
 plain_request here b body [] t e = ap (λ (t : Taken). plain_taken t.board t.took) (sym e)
 plain_request here b body (l ∷ ls) t e =
     let a : Asked = asks b.names body ls in
     ap (λ (t : Taken). plain_taken t.board t.took) (sym e)
-    ∙ (λ i. Some (record { switchboard = record { names = map plain_named a.names; sent = b.sent + 1 }; answer = plain_answer here b.sent l a.reply i }))
+    ∙ (λ i. Some (record { switchboard = record { names = map plain_named a.names; sent = b.sent + 1 }; answer = plain_answer here b.moves b.sent l a.reply i }))
     ∙ ap (λ p. Some (one.board_answers (plain_board b) (plain_link l) p)) (sym (plain_asks b.names body ls))
 
 -- a user message has the row of the kernel without machines

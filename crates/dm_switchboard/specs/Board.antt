@@ -12,10 +12,11 @@ pub record Named : Type 0 where
   pub name : List ℕ
   pub link : Link
 
--- the names in order of registration, and how many messages were sent
+-- the names in order of registration, how many messages were sent, and how often the switchboard has moved
 pub record Board : Type 0 where
   pub names : List Named
   pub sent : ℕ
+  pub moves : ℕ
 
 -- an entry of a map of names, and all of them
 abbrev pub named : ArrayVec ℕ × Link → Named

@@ -4,3 +4,4 @@ pub mod Operations
 pub mod Taking
 pub mod Plainly
 pub mod Lawful
+pub mod Packed

@@ -88,31 +88,31 @@ asks names (operation ∷ name) others =
     else if operation == 2 then asks_to_look_up names name others
     else bad_request names
 
--- the switchboard on a machine
-abbrev pub address_at : ℕ → Addr
-address_at here = record { pid = switchboard; at = here; moves = 0 }
+-- the switchboard on a machine, where it came after so many moves
+abbrev pub address_at : ℕ → ℕ → Addr
+address_at here moves = record { pid = switchboard; at = here; moves = moves }
 
 -- the answer goes to where the link leads, as its message number n
-abbrev pub answer_over : ℕ → ℕ → Link → Reply → Message
-answer_over here n l r =
-    record { id = id_of switchboard n; to = l.addr; sender = address_at here; what = what.User l.code l.channel (record { items = code_of_reply r ∷ [] }) (record { items = links_of_reply r }) }
+abbrev pub answer_over : ℕ → ℕ → ℕ → Link → Reply → Message
+answer_over here moves n l r =
+    record { id = id_of switchboard n; to = l.addr; sender = address_at here moves; what = what.User l.code l.channel (record { items = code_of_reply r ∷ [] }) (record { items = links_of_reply r }) }
 
 -- the board after a message, and what the call tells of it
 pub record Taken : Type 0 where
   pub board : Board
   pub took : Took
 
-abbrev pub answers : ℕ → ℕ → Link → Asked → Taken
-answers here sent l a =
+abbrev pub answers : ℕ → Board → Link → Asked → Taken
+answers here b l a =
     record {
-      board = record { names = a.names; sent = sent + 1 };
-      took = record { reply = Some a.reply; answer = Some (answer_over here sent l a.reply) };
+      board = record { names = a.names; sent = b.sent + 1; moves = b.moves };
+      took = record { reply = Some a.reply; answer = Some (answer_over here b.moves b.sent l a.reply) };
     }
 
 -- a request without links has no effect and no answer
 abbrev pub takes_request : ℕ → Board → List ℕ → List Link → Taken
 takes_request here b body [] = record { board = b; took = record { reply = None; answer = None } }
-takes_request here b body (l ∷ others) = answers here b.sent l (asks b.names body others)
+takes_request here b body (l ∷ others) = answers here b l (asks b.names body others)
 
 -- only user messages are for the switchboard, which is on machine `here`
 abbrev pub takes : ℕ → Board → What → Option Taken

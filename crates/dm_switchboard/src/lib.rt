@@ -1,38 +1,47 @@
 //! The switchboard (1977): a list of names, each with a link that is handed out to whoever looks the name up.
 #![tactic(auto)]
 
-ghost use Rattle.std.specs.Prelude.{◌≡◌, ◌<◌, ◌^◌, [], IfOk, IfSome, OnErr, Some, count_by, length, map, option_map, slice_get};
+ghost use Rattle.std.specs.Prelude.{◌≡◌, ◌+◌, ◌<◌, ◌^◌, [], IfOk, IfSome, Ok, OnErr, Some, count_by, length, map, option_map, slice_get};
 ghost use Rattle.dm_link.specs.Lawful.{IsMachine};
 ghost use Rattle.dm_message.specs.declared.kind.MessageKind.TheVariants as kind;
 ghost use Rattle.dm_message.specs.Kinds.{kind_of};
 ghost use Rattle.dm_message.specs.Lawful.{IsLawfulMessage};
 ghost use Rattle.dm_message.specs.Plain.{plain_message};
-ghost use Rattle.dm_switchboard.specs.Board.{named_is_behind, plain_board, retargeted_named};
+ghost use Rattle.dm_statebytes.specs.Servers.{Gives, IsUnpacked};
+ghost use Rattle.dm_switchboard.specs.Board.{Board, named_is_behind, plain_board, retargeted_named};
 ghost use Rattle.dm_switchboard.specs.Lawful.{IsLawfulBoard};
+ghost use Rattle.dm_switchboard.specs.Packed.{HaveOwnNames, IsSpelledBoard, board_of_bytes, board_spelling};
 ghost use Rattle.dm_switchboard.specs.Plainly.{plain_taken, plainly_taken};
 ghost use Rattle.dm_switchboard.specs.Taking.{takes, takes_request};
 
 mod names;
+mod reading;
 mod reply;
 mod requests;
+mod writing;
 
 use dm_link::{Link, MACHINES, Pid};
 use dm_memory::NoMemory;
 use dm_message::{Message, What};
+pub use dm_statebytes::server::ServerError;
 use indexmap::IndexMap;
 use names::{Names, retarget_names};
+use reading::board_at;
 pub use reply::Reply;
 use requests::ask;
 use std::alloc::Global;
 use std::marker::Model;
+use writing::board_bytes;
 
 /// The names that processes have registered, in order of registration.
 ///
-/// Its model is the list of names, each with its link, and the number of messages that were sent.
+/// Its model is the list of names, each with its link, the number of messages that were sent, and that of its moves.
 #[derive(Drop)]
 pub struct Switchboard {
     names: Names,
     sent: u32,
+    /// How often it has moved to another machine.
+    moves: u32,
 }
 
 impl Model for Switchboard {
@@ -40,7 +49,7 @@ impl Model for Switchboard {
 
     ghost Value = { Board };
 
-    ghost view = { λ b. record { names = listed b.names.entries; sent = b.sent } };
+    ghost view = { λ b. record { names = listed b.names.entries; sent = b.sent; moves = b.moves } };
 }
 
 /// What came of a message.
@@ -55,11 +64,12 @@ pub struct Took {
 impl Switchboard {
     /// No names. It takes no memory.
     pub fn new(alloc: Global) -> Self
-        ensures { result ≡ record { names = []; sent = 0 } }
+        ensures { result ≡ record { names = []; sent = 0; moves = 0 } }
     {
         Switchboard {
             names: IndexMap::new(alloc),
             sent: 0,
+            moves: 0,
         }
     }
 
@@ -68,6 +78,23 @@ impl Switchboard {
         ensures { result ≡ self.now.sent }
     {
         self.sent
+    }
+
+    /// How often it has moved.
+    pub fn moves(&self) -> u32
+        ensures { result ≡ self.now.moves }
+    {
+        self.moves
+    }
+
+    /// It has moved once more. It takes no memory.
+    pub fn moved(&mut self)
+        requires { self.old.moves < u32.MAX }
+        ensures board { self.new ≡ record self.old { moves = self.old.moves + 1 } }
+        ensures plain { plain_board self.new ≡ plain_board self.old }
+        ensures lawful { IsLawfulBoard self.old → IsLawfulBoard self.new }
+    {
+        self.moves += 1;
     }
 
     /// How many names there are.
@@ -120,7 +147,7 @@ impl Switchboard {
             });
         };
         let reply = ask(&mut self.names, body, others)?;
-        let answer = reply.over(here, first, self.sent);
+        let answer = reply.over(here, self.moves, first, self.sent);
         self.sent += 1;
         Ok(Took {
             reply: Some(reply),
@@ -131,11 +158,36 @@ impl Switchboard {
     /// Sets the links to a process that know fewer moves of it than these to where it is; answers how many changed.
     pub fn retarget(&mut self, about: Pid, at: u8, moves: u32) -> u32
         requires { length self.old.names < 2 ^ 31 }
-        ensures names { self.new ≡ record { names = map (retargeted_named about at moves) self.old.names; sent = self.old.sent } }
+        ensures names { self.new ≡ record self.old { names = map (retargeted_named about at moves) self.old.names } }
         ensures changed { result ≡ count_by (named_is_behind about moves) self.old.names }
         ensures plain { plain_board self.new ≡ plain_board self.old }
         ensures lawful { IsMachine at → IsLawfulBoard self.old → IsLawfulBoard self.new }
     {
         retarget_names(&mut self.names, about, at, moves)
+    }
+
+    /// The switchboard as bytes, what a machine hands on when it moves. Its names stand in their order.
+    pub fn pack(&self, alloc: Global) -> Result<Vec<u8>, NoMemory>
+        requires few { length self.now.names < 2 ^ 31 }
+        requires lawful { IsLawfulBoard self.now }
+        ensures ok { IfOk result (λ v. v.items ≡ board_spelling self.now) }
+        // No name stands twice.
+        ensures apart { HaveOwnNames self.now.names }
+        // What is packed is unpacked to the same switchboard.
+        ensures again { IfOk result (λ v. board_of_bytes v.items ≡ Ok self.now) }
+    {
+        board_bytes(alloc, &self.names, self.sent, self.moves)
+    }
+
+    /// The switchboard that the bytes spell, all of them, or the first rule from the left that they break, or want of memory.
+    pub fn unpack(alloc: Global, bytes: &[u8]) -> Result<Switchboard, ServerError>
+        // Which switchboard, and which rule.
+        ensures exact { IsUnpacked result (board_of_bytes bytes.now) }
+        // What is read is lawful, and spelled so and in no other way.
+        ensures found { IfOk result (λ b. IsSpelledBoard b × (bytes.now ≡ board_spelling b)) }
+        // What is spelled so is read, unless memory lacks.
+        ensures only { (b : Board) → IsSpelledBoard b → bytes.now ≡ board_spelling b → Gives result b }
+    {
+        board_at(alloc, bytes)
     }
 }

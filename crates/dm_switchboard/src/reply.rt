@@ -5,14 +5,14 @@ ghost use Rattle.dm_switchboard.specs.Taking.{address_at, answer_over, code_of_r
 use dm_link::{Addr, Link, SWITCHBOARD};
 use dm_message::{Body, Enclosed, Message, MsgId, What};
 
-/// The switchboard on machine `here`.
-fn address_at(here: u8) -> Addr
-    ensures { result ≡ address_at here }
+/// The switchboard on machine `here`, where it came after so many moves.
+fn address_at(here: u8, moves: u32) -> Addr
+    ensures { result ≡ address_at here moves }
 {
     Addr {
         pid: SWITCHBOARD,
         at: here,
-        moves: 0,
+        moves,
     }
 }
 
@@ -55,9 +55,10 @@ impl Reply {
         links
     }
 
-    /// The message that carries it over a link, the switchboard's message of this number from machine `here`.
-    pub(crate) fn over(self, here: u8, link: &Link, number: u32) -> Message
-        ensures { result ≡ answer_over here number link.now self }
+    /// The message that carries it over a link, the switchboard's message of this number from machine `here`, where it came
+    /// after so many moves.
+    pub(crate) fn over(self, here: u8, moves: u32, link: &Link, number: u32) -> Message
+        ensures { result ≡ answer_over here moves number link.now self }
     {
         let mut body = Body::new();
         body.push(self.code());
@@ -68,7 +69,7 @@ impl Reply {
                 answer: false,
             },
             to: link.addr,
-            sender: address_at(here),
+            sender: address_at(here, moves),
             what: What::User {
                 code: link.code,
                 channel: link.channel,

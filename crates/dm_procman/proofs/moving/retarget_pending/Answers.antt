@@ -1,4 +1,4 @@
-use Rattle.dm_procman.proofs.Names.{◌≡◌, false, length, get_or, set, ap, ◌∙◌, arith, None, Pending, pending_is_behind, retargeted_pending}
+use Rattle.dm_procman.proofs.Names.{◌≡◌, length, get_or, set, ap, ◌∙◌, arith, None, Pending, pending_is_behind, retargeted_pending}
 use Rattle.dm_procman.proofs.Following.{all_counted, all_followed, counted, counted_next, counted_within, followed, later_followed, set_followed}
 use Rattle.dm_onekernel.specs.declared.request.PendingKind.TheVariants as wanted
 use Rattle.dm_procman.proofs.moving.retarget_pending.Goals as goal

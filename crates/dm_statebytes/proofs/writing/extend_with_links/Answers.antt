@@ -1,4 +1,4 @@
-use Rattle.dm_statebytes.proofs.Names.{◌≡◌, ◌≤◌, ◌<◌, ◌++◌, ◌∙◌, None, Some, length, take, take_all, ap, sym, subst, arith, append-nil, All, flat_map, spell_slot, FitsSlot}
+use Rattle.dm_statebytes.proofs.Names.{◌≤◌, ◌<◌, ◌++◌, ◌∙◌, None, Some, length, take_all, ap, sym, subst, arith, append-nil, All, flat_map, spell_slot, FitsSlot}
 use Rattle.dm_statebytes.proofs.Loops.{slot_written}
 use Rattle.dm_statebytes.proofs.writing.extend_with_links.Goals as goal
 use Rattle.dm_statebytes.proofs.writing.extend_with_links.Goals.{in-Some+in_ok-extend_with_link, in_default}

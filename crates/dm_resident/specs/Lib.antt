@@ -1,0 +1,4 @@
+pub mod Residents
+pub mod Packed
+pub mod Lawful
+pub mod Lent
