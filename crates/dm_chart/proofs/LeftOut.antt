@@ -1,13 +1,13 @@
 -- What a run puts and its picture doesn't show is what the picture says it leaves out.
 use Rattle.dm_chart.proofs.Names.{◌≡◌, ◌<◌, ◌≤◌, ℕ, ◌+◌, Bool, true, false, List, [], ◌∷◌, ◌++◌, refl, ap, sym, ◌∙◌, arith, length, ◌&&◌, if◌then◌else◌, flat_map-append, append_assoc}
-use Rattle.dm_chart.proofs.Names.{Pid, Line, Letter, Role, Spot, letter_of_role, letters_of, role_of, first_spot, spot_behind}
+use Rattle.dm_chart.proofs.Names.{Line, Letter, Role, Spot, letter_of_role, letters_of, role_of, first_spot, spot_behind}
 use Rattle.std.proofs.lemmas.Bool.Decides.{nat_tests}
 use Rattle.std.proofs.lemmas.List.Sums.{sum_by-cons}
 use Rattle.std.proofs.Common.{cond, length-append, nat_lt, ◌^◌, not, fold, ◌==◌}
 use Rattle.dm_chart.specs.Kept.{plus, none_kept, is_put, messages_in, rows_in, passed, left, shown, rows_fit, kept_of}
 unfoldable use Rattle.dm_chart.specs.Kept.{is_put_line, keep}
 use Rattle.dm_chart.specs.Laws.{PutsHaveArrows, letters_in}
-use Rattle.dm_chart.specs.Spots.{one_row_more, spot_after}
+use Rattle.dm_chart.specs.Spots.{one_row_more, seated, spot_after}
 unfoldable use Rattle.dm_chart.specs.Spots.{next_spot}
 use Rattle.dm_chart.specs.declared.kept.Kept.{Kept}
 use Rattle.dm_chart.specs.declared.role.Role.TheVariants as role
@@ -28,7 +28,7 @@ row_stays s (role.Packet a b k n) h = packet_row s a b k n s.begun refl h
 row_stays s (role.Taken a b n) h = one_row s.row
 row_stays s (role.Early a b n) h = one_row s.row
 row_stays s (role.Again a b n) h = one_row s.row
-row_stays s (role.Note l) h = one_row s.row
+row_stays s (role.Note way) h = one_row (seated way s).row
 row_stays s role.Unseen h = h
 
 some_row : (s : Spot) (g : List Line) → 1 ≤ s.row → 1 ≤ (spot_behind s g).row

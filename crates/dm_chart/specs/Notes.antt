@@ -98,4 +98,4 @@ note_of before (line.Stale id) = note (codes "c4") (codes "too late: " ∷ id_wo
 note_of before (line.Proto id) = no_note
 note_of before (line.NoChild p) = note (codes "c3") (codes "no child: " ∷ pid_word p ∷ [])
 note_of before (line.NoCall p) = note (codes "c3") (codes "nothing to call off: " ∷ pid_word p ∷ [])
-note_of before (line.Pinned p) = note (codes "c3") (codes "can't move: " ∷ pid_word p ∷ [])
+note_of before line.Away = note (codes "c3") (codes "the manager is away" ∷ [])

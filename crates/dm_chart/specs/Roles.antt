@@ -92,4 +92,4 @@ role_of (line.Stale id) = role.Note life.Same
 role_of (line.Proto id) = role.Unseen
 role_of (line.NoChild p) = role.Note life.Same
 role_of (line.NoCall p) = role.Note life.Same
-role_of (line.Pinned p) = role.Note life.Same
+role_of line.Away = role.Note life.Same

@@ -4,6 +4,10 @@ use Rattle.std.specs.Prelude.{ℕ, ◌+◌, nat_lt, Bool, true, false, if◌then
 use Rattle.dm_schedule.specs.declared.Step.{Step}
 use Rattle.dm_schedule.specs.declared.Step.TheVariants as step
 use Rattle.dm_line.specs.declared.line.Line.{Line}
+use Rattle.dm_link.specs.Names.{pid_eq}
+use Rattle.dm_onekernel.specs.Boot.{manager}
+use Rattle.dm_chart.specs.declared.role.Life.{Life}
+use Rattle.dm_chart.specs.declared.role.Life.TheVariants as life
 use Rattle.dm_chart.specs.declared.role.Role.{Role}
 use Rattle.dm_chart.specs.declared.role.Role.TheVariants as role
 use Rattle.dm_chart.specs.declared.spot.Spot.{Spot}
@@ -16,35 +20,44 @@ most_rows = 1200
 abbrev pub one_row_more : ℕ → ℕ
 one_row_more n = if nat_lt n most_rows then n + 1 else most_rows
 
--- the machine that acts on a directive; a request to move is the process manager's, on machine 0
-abbrev pub acting_machine : Step → ℕ
-acting_machine (step.Turn m) = m
-acting_machine (step.Tick m) = m
-acting_machine (step.Deliver a b k) = b
-acting_machine (step.Migrate p m) = 0
-acting_machine (step.CallOff p m) = m
+-- the machine that acts on a directive; a request to move is the process manager's, on the machine where that is
+abbrev pub acting_machine : ℕ → Step → ℕ
+acting_machine seat (step.Turn m) = m
+acting_machine seat (step.Tick m) = m
+acting_machine seat (step.Deliver a b k) = b
+acting_machine seat (step.Migrate p m) = seat
+acting_machine seat (step.CallOff p m) = m
 
 -- before the first line
 abbrev pub first_spot : Spot
-first_spot = record { row = 0; groups = 0; step = step.Turn 0; machine = 0; begun = false; own = false }
+first_spot = record { row = 0; groups = 0; step = step.Turn 0; machine = 0; seat = 0; begun = false; own = false }
 
 -- a line with a row, and whether it puts a message
 abbrev pub with_row : Bool → Spot → Spot
-with_row own s = record { row = one_row_more s.row; groups = s.groups; step = s.step; machine = s.machine; begun = true; own = own }
+with_row own s = record { row = one_row_more s.row; groups = s.groups; step = s.step; machine = s.machine; seat = s.seat; begun = true; own = own }
 
 -- a line without a row
 abbrev pub without_row : Spot → Spot
-without_row s = record { row = s.row; groups = s.groups; step = s.step; machine = s.machine; begun = s.begun; own = false }
+without_row s = record { row = s.row; groups = s.groups; step = s.step; machine = s.machine; seat = s.seat; begun = s.begun; own = false }
+
+-- where the process manager goes on after it moved, or stays, it is
+abbrev pub seated : Life → Spot → Spot
+seated (life.From p) s = record s { seat = if pid_eq p manager then s.machine else s.seat }
+seated life.Same s = s
+seated (life.Made p) s = s
+seated (life.Ends p) s = s
+seated (life.Leaves p) s = s
+seated (life.Served i) s = s
 
 -- a packet that goes out with its message has no row of its own
 abbrev pub spot_after : Spot → Role → Spot
-spot_after s (role.Head e) = record { row = s.row; groups = one_row_more s.groups; step = e; machine = acting_machine e; begun = false; own = false }
+spot_after s (role.Head e) = record { row = s.row; groups = one_row_more s.groups; step = e; machine = acting_machine s.seat e; seat = s.seat; begun = false; own = false }
 spot_after s (role.Put letter) = with_row true s
 spot_after s (role.Packet a b k n) = if s.begun then without_row s else with_row false s
 spot_after s (role.Taken a b n) = with_row false s
 spot_after s (role.Early a b n) = with_row false s
 spot_after s (role.Again a b n) = with_row false s
-spot_after s (role.Note life) = with_row false s
+spot_after s (role.Note way) = with_row false (seated way s)
 spot_after s role.Unseen = without_row s
 
 -- behind one more line

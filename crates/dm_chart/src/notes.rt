@@ -167,7 +167,7 @@ pub fn put_note(
         Line::Stale(id) => note_message(into, place, PACKET, "too late: ", id),
         Line::NoChild(pid) => note_process(into, place, STEP, "no child: ", pid),
         Line::NoCall(pid) => note_process(into, place, STEP, "nothing to call off: ", pid),
-        Line::Pinned(pid) => note_process(into, place, STEP, "can't move: ", pid),
+        Line::Away => put_beside(into, place, STEP, &[Name("the manager is away")]),
     }
 }
 

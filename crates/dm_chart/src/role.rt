@@ -100,7 +100,7 @@ pub fn role_of(line: &Line) -> Role
         | Line::Stale(_)
         | Line::NoChild(_)
         | Line::NoCall(_)
-        | Line::Pinned(_) => Role::Note(Life::Same),
+        | Line::Away => Role::Note(Life::Same),
     }
 }
 

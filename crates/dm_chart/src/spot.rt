@@ -1,9 +1,12 @@
 //! How far a picture has come with the lines.
-ghost use Rattle.std.specs.Prelude.{◌≡◌, ◌≤◌};
-ghost use Rattle.dm_chart.specs.Spots.{acting_machine, first_spot, next_spot, one_row_more, spot_after, with_row, without_row};
+ghost use Rattle.std.specs.Prelude.{◌≡◌, ◌≤◌, if◌then◌else◌};
+ghost use Rattle.dm_link.specs.Names.{pid_eq};
+ghost use Rattle.dm_onekernel.specs.Boot.{manager};
+ghost use Rattle.dm_chart.specs.Spots.{acting_machine, first_spot, next_spot, one_row_more, seated, spot_after, with_row, without_row};
 
-use crate::role::{Role, role_of};
+use crate::role::{Life, Role, role_of};
 use dm_line::line::Line;
+use dm_link::{MANAGER, Pid};
 use dm_schedule::Step;
 
 /// The most rows of a picture.
@@ -19,6 +22,8 @@ pub struct Spot {
     /// The directive of the group, and the machine that acts on it.
     pub step: Step,
     pub machine: u8,
+    /// The machine where the process manager is, or was last.
+    pub seat: u8,
     /// The group has a row.
     pub begun: bool,
     /// The last line put a message.
@@ -34,6 +39,7 @@ pub fn first_spot() -> Spot
         groups: 0,
         step: Step::Turn(0),
         machine: 0,
+        seat: 0,
         begun: false,
         own: false,
     }
@@ -58,14 +64,14 @@ pub fn spot_after(spot: Spot, role: Role) -> Spot
             row: spot.row,
             groups: more(spot.groups),
             step,
-            machine: machine_of(step),
+            machine: machine_of(spot.seat, step),
+            seat: spot.seat,
             begun: false,
             own: false,
         },
         Role::Put(_) => with_row(spot, true),
-        Role::Taken { .. } | Role::Early { .. } | Role::Again { .. } | Role::Note(_) => {
-            with_row(spot, false)
-        }
+        Role::Taken { .. } | Role::Early { .. } | Role::Again { .. } => with_row(spot, false),
+        Role::Note(life) => with_row(seated(spot, life), false),
         Role::Packet { .. } => {
             if spot.begun {
                 without_row(spot)
@@ -87,6 +93,7 @@ fn with_row(spot: Spot, own: bool) -> Spot
         groups: spot.groups,
         step: spot.step,
         machine: spot.machine,
+        seat: spot.seat,
         begun: true,
         own,
     }
@@ -102,6 +109,7 @@ fn without_row(spot: Spot) -> Spot
         groups: spot.groups,
         step: spot.step,
         machine: spot.machine,
+        seat: spot.seat,
         begun: spot.begun,
         own: false,
     }
@@ -115,15 +123,41 @@ fn more(n: u32) -> u32
     if n < MOST_ROWS { n + 1 } else { MOST_ROWS }
 }
 
-/// The machine that acts on a directive; a request to move is the process manager's, on machine 0.
-fn machine_of(step: Step) -> u8
-    ensures { result ≡ acting_machine step }
+/// Where the process manager goes on after it moved, or stays, it is.
+fn seated(spot: Spot, life: Life) -> Spot
+    ensures spot { result ≡ seated life spot }
+    ensures same { result.row ≡ spot.row }
+{
+    match life {
+        Life::From(pid) => sits(spot, pid),
+        Life::Same | Life::Made(_) | Life::Ends(_) | Life::Leaves(_) | Life::Served(_) => spot,
+    }
+}
+
+/// Where a process or a server goes on: the manager's seat, if it is the manager.
+fn sits(spot: Spot, pid: Pid) -> Spot
+    ensures spot { result ≡ record spot { seat = if pid_eq pid manager then spot.machine else spot.seat } }
+    ensures same { result.row ≡ spot.row }
+{
+    if pid == MANAGER {
+        Spot {
+            seat: spot.machine,
+            ..spot
+        }
+    } else {
+        spot
+    }
+}
+
+/// The machine that acts on a directive; a request to move is the process manager's, on the machine where that is.
+fn machine_of(seat: u8, step: Step) -> u8
+    ensures { result ≡ acting_machine seat step }
 {
     match step {
         Step::Turn(m) => m,
         Step::Tick(m) => m,
         Step::Deliver { b, .. } => b,
-        Step::Migrate { .. } => 0,
+        Step::Migrate { .. } => seat,
         Step::CallOff { at, .. } => at,
     }
 }

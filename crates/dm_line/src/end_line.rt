@@ -73,6 +73,12 @@ pub enum EndLine {
         pid: Pid,
         sent: u32,
     },
+    /// Where a server stands that isn't here on machine 0, behind the line that says how many messages it has sent.
+    Place {
+        pid: Pid,
+        at: u8,
+        standing: Standing,
+    },
     /// A name of the switchboard.
     Name {
         name: ArrayVec<u8, 16>,

@@ -108,9 +108,10 @@ pub enum Line {
     Stale(MsgId),
     /// A message of a migration that is no step of it.
     Proto(MsgId),
-    /// A process that is to move is none of the manager's, or can't move.
+    /// A process that is to move is none of the manager's.
     NoChild(Pid),
-    Pinned(Pid),
+    /// The manager is on its way, so that no machine has it here: nothing is told to move.
+    Away,
     /// A process whose migration is to be called off isn't on its way to the machine, or all of it has come.
     NoCall(Pid),
 }

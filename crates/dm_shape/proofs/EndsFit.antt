@@ -87,6 +87,7 @@ end_has_row (end.Registers p r pc) h f = listed (λ x. is_row (row_of x) (end_wo
 end_has_row (end.Memory p k bytes) h f = listed (λ x. is_row (row_of x) (end_words (end.Memory p k bytes))) (shape.End end_shape.Memory) (rw (process_fits p h.1.0, small_fits k h.1.1.0, block_fits bytes.items h.1.1.1.0 f.0 f.1 f.2) refl)
 end_has_row (end.Link p slot l) h f = listed (λ x. is_row (row_of x) (end_words (end.Link p slot l))) (shape.End end_shape.Link) (rw (process_fits p h.1.0, small_fits slot h.1.1.0, link_fits l h.1.1.1) refl)
 end_has_row (end.Server p sent) h f = listed (λ x. is_row (row_of x) (end_words (end.Server p sent))) (shape.End end_shape.Server) (rw (process_fits p h.1.0, number_fits sent h.1.1.0) refl)
+end_has_row (end.Place p m s) h f = listed (λ x. is_row (row_of x) (end_words (end.Place p m s))) (shape.End end_shape.Place) (rw (process_fits p h.1.0, at_fits, machine_fits m h.1.1.1.0, standing_fits s) refl)
 end_has_row (end.Name name l) h f = listed (λ x. is_row (row_of x) (end_words (end.Name name l))) (shape.End end_shape.Name) (rw (name_fits name.items h.1.0 f.0 f.1, link_fits l h.1.1) refl)
 end_has_row (end.Child n p m) h f = listed (λ x. is_row (row_of x) (end_words (end.Child n p m))) (shape.End end_shape.Child) (rw (number_fits n h.1.0, process_fits p h.1.1.0, at_fits, machine_fits m h.1.1.1.1.0) refl)
 end_has_row (end.Pending i) h f = listed (λ x. is_row (row_of x) (end_words (end.Pending i))) (shape.End end_shape.Pending) (rw (message_fits i h.1.0) refl)

@@ -71,4 +71,4 @@ line_has_row (line.Stale i) h = listed (λ x. is_row (row_of x) (line_words (lin
 line_has_row (line.Proto i) h = listed (λ x. is_row (row_of x) (line_words (line.Proto i))) (shape.Group group_shape.Proto) (rw (message_fits i h.1.0) refl)
 line_has_row (line.NoChild p) h = listed (λ x. is_row (row_of x) (line_words (line.NoChild p))) (shape.Group group_shape.NoChild) (rw (process_fits p h.1.0) refl)
 line_has_row (line.NoCall p) h = listed (λ x. is_row (row_of x) (line_words (line.NoCall p))) (shape.Group group_shape.NoCall) (rw (process_fits p h.1.0) refl)
-line_has_row (line.Pinned p) h = listed (λ x. is_row (row_of x) (line_words (line.Pinned p))) (shape.Group group_shape.Pinned) (rw (process_fits p h.1.0) refl)
+line_has_row line.Away h = listed (λ x. is_row (row_of x) (line_words line.Away)) (shape.Group group_shape.Away) (refl)

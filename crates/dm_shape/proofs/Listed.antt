@@ -65,7 +65,7 @@ listed test (shape.Group group_shape.NoMove) e = passes_at test all_shapes 41 (s
 listed test (shape.Group group_shape.Stale) e = passes_at test all_shapes 42 (shape.Group group_shape.Stale) refl e
 listed test (shape.Group group_shape.Proto) e = passes_at test all_shapes 43 (shape.Group group_shape.Proto) refl e
 listed test (shape.Group group_shape.NoChild) e = passes_at test all_shapes 44 (shape.Group group_shape.NoChild) refl e
-listed test (shape.Group group_shape.Pinned) e = passes_at test all_shapes 45 (shape.Group group_shape.Pinned) refl e
+listed test (shape.Group group_shape.Away) e = passes_at test all_shapes 45 (shape.Group group_shape.Away) refl e
 listed test (shape.Group group_shape.NoCall) e = passes_at test all_shapes 46 (shape.Group group_shape.NoCall) refl e
 listed test (shape.End end_shape.Final) e = passes_at test all_shapes 47 (shape.End end_shape.Final) refl e
 listed test (shape.End end_shape.Ended) e = passes_at test all_shapes 48 (shape.End end_shape.Ended) refl e
@@ -76,14 +76,15 @@ listed test (shape.End end_shape.Registers) e = passes_at test all_shapes 52 (sh
 listed test (shape.End end_shape.Memory) e = passes_at test all_shapes 53 (shape.End end_shape.Memory) refl e
 listed test (shape.End end_shape.Link) e = passes_at test all_shapes 54 (shape.End end_shape.Link) refl e
 listed test (shape.End end_shape.Server) e = passes_at test all_shapes 55 (shape.End end_shape.Server) refl e
-listed test (shape.End end_shape.Name) e = passes_at test all_shapes 56 (shape.End end_shape.Name) refl e
-listed test (shape.End end_shape.Child) e = passes_at test all_shapes 57 (shape.End end_shape.Child) refl e
-listed test (shape.End end_shape.Pending) e = passes_at test all_shapes 58 (shape.End end_shape.Pending) refl e
-listed test (shape.End end_shape.Queue) e = passes_at test all_shapes 59 (shape.End end_shape.Queue) refl e
-listed test (shape.End end_shape.Holding) e = passes_at test all_shapes 60 (shape.End end_shape.Holding) refl e
-listed test (shape.End end_shape.Inbox) e = passes_at test all_shapes 61 (shape.End end_shape.Inbox) refl e
-listed test (shape.End end_shape.Stream) e = passes_at test all_shapes 62 (shape.End end_shape.Stream) refl e
-listed test (shape.End end_shape.Groups) e = passes_at test all_shapes 63 (shape.End end_shape.Groups) refl e
+listed test (shape.End end_shape.Place) e = passes_at test all_shapes 56 (shape.End end_shape.Place) refl e
+listed test (shape.End end_shape.Name) e = passes_at test all_shapes 57 (shape.End end_shape.Name) refl e
+listed test (shape.End end_shape.Child) e = passes_at test all_shapes 58 (shape.End end_shape.Child) refl e
+listed test (shape.End end_shape.Pending) e = passes_at test all_shapes 59 (shape.End end_shape.Pending) refl e
+listed test (shape.End end_shape.Queue) e = passes_at test all_shapes 60 (shape.End end_shape.Queue) refl e
+listed test (shape.End end_shape.Holding) e = passes_at test all_shapes 61 (shape.End end_shape.Holding) refl e
+listed test (shape.End end_shape.Inbox) e = passes_at test all_shapes 62 (shape.End end_shape.Inbox) refl e
+listed test (shape.End end_shape.Stream) e = passes_at test all_shapes 63 (shape.End end_shape.Stream) refl e
+listed test (shape.End end_shape.Groups) e = passes_at test all_shapes 64 (shape.End end_shape.Groups) refl e
 
 -- words are those of a row
 abbrev pub has_row : List (List ℕ) → Bool

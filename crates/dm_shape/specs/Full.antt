@@ -12,6 +12,7 @@ IsFull (end.Registers p r pc) = ⊤
 IsFull (end.Memory p k bytes) = (0 < length bytes.items) × (length bytes.items ≤ 256) × (slice_index bytes.items (length bytes.items - 1) ≢ 0)
 IsFull (end.Link p slot l) = ⊤
 IsFull (end.Server p sent) = ⊤
+IsFull (end.Place p m s) = ⊤
 IsFull (end.Name name l) = (0 < length name.items) × (length name.items ≤ 16)
 IsFull (end.Child n p m) = ⊤
 IsFull (end.Pending id) = ⊤

@@ -98,7 +98,7 @@ group_row group_shape.NoMove = row (codes "nomove") (sort.Message ∷ [])
 group_row group_shape.Stale = row (codes "stale") (sort.Message ∷ [])
 group_row group_shape.Proto = row (codes "proto") (sort.Message ∷ [])
 group_row group_shape.NoChild = row (codes "nochild") (sort.Process ∷ [])
-group_row group_shape.Pinned = row (codes "pinned") (sort.Process ∷ [])
+group_row group_shape.Away = row (codes "away") []
 group_row group_shape.NoCall = row (codes "nocall") (sort.Process ∷ [])
 
 -- of each line at the end of a run
@@ -115,6 +115,7 @@ end_row end_shape.Registers = row (codes "registers") (sort.Process ∷ numbers 
 end_row end_shape.Memory = row (codes "memory") (sort.Process ∷ sort.Number ∷ sort.Block ∷ [])
 end_row end_shape.Link = row (codes "link") (sort.Process ∷ sort.Number ∷ link_sorts)
 end_row end_shape.Server = row (codes "server") (sort.Process ∷ sort.Number ∷ [])
+end_row end_shape.Place = row (codes "place") (sort.Process ∷ choose choice.At ∷ sort.Machine ∷ choose choice.Standing ∷ [])
 end_row end_shape.Name = row (codes "name") (sort.Name ∷ link_sorts)
 end_row end_shape.Child = row (codes "child") (sort.Number ∷ sort.Process ∷ choose choice.At ∷ sort.Machine ∷ [])
 end_row end_shape.Pending = row (codes "pending") (sort.Message ∷ [])
@@ -138,9 +139,9 @@ all_shapes =
     ∷ shape.Kernel kernel_shape.Dropped ∷ shape.Kernel kernel_shape.Served ∷ shape.Kernel kernel_shape.Gone ∷ shape.Kernel kernel_shape.Took ∷ shape.Kernel kernel_shape.Created ∷ shape.Kernel kernel_shape.NoSpace ∷ shape.Kernel kernel_shape.Asked ∷ shape.Kernel kernel_shape.Answered
     ∷ shape.Group group_shape.Idle ∷ shape.Group group_shape.Put ∷ shape.Group group_shape.Packet ∷ shape.Group group_shape.Taken ∷ shape.Group group_shape.Old ∷ shape.Group group_shape.Early ∷ shape.Group group_shape.Acked ∷ shape.Group group_shape.Nothing
     ∷ shape.Group group_shape.Resent ∷ shape.Group group_shape.Queued ∷ shape.Group group_shape.Held ∷ shape.Group group_shape.Forwarded ∷ shape.Group group_shape.Updated ∷ shape.Group group_shape.Buried ∷ shape.Group group_shape.Stage ∷ shape.Group group_shape.SentOn ∷ shape.Group group_shape.Lacks ∷ shape.Group group_shape.Called
-    ∷ shape.Group group_shape.Stays ∷ shape.Group group_shape.Here ∷ shape.Group group_shape.NoMove ∷ shape.Group group_shape.Stale ∷ shape.Group group_shape.Proto ∷ shape.Group group_shape.NoChild ∷ shape.Group group_shape.Pinned ∷ shape.Group group_shape.NoCall
+    ∷ shape.Group group_shape.Stays ∷ shape.Group group_shape.Here ∷ shape.Group group_shape.NoMove ∷ shape.Group group_shape.Stale ∷ shape.Group group_shape.Proto ∷ shape.Group group_shape.NoChild ∷ shape.Group group_shape.Away ∷ shape.Group group_shape.NoCall
     ∷ shape.End end_shape.Final ∷ shape.End end_shape.Ended ∷ shape.End end_shape.Ready ∷ shape.End end_shape.Waiting ∷ shape.End end_shape.Moving ∷ shape.End end_shape.Registers ∷ shape.End end_shape.Memory ∷ shape.End end_shape.Link
-    ∷ shape.End end_shape.Server ∷ shape.End end_shape.Name ∷ shape.End end_shape.Child ∷ shape.End end_shape.Pending ∷ shape.End end_shape.Queue ∷ shape.End end_shape.Holding ∷ shape.End end_shape.Inbox ∷ shape.End end_shape.Stream
+    ∷ shape.End end_shape.Server ∷ shape.End end_shape.Place ∷ shape.End end_shape.Name ∷ shape.End end_shape.Child ∷ shape.End end_shape.Pending ∷ shape.End end_shape.Queue ∷ shape.End end_shape.Holding ∷ shape.End end_shape.Inbox ∷ shape.End end_shape.Stream
     ∷ shape.End end_shape.Groups ∷ []
 
 -- behind the words of a row: nothing, or, where it lists, names of messages, one or more

@@ -81,7 +81,7 @@ pub enum GroupShape {
     Stale,
     Proto,
     NoChild,
-    Pinned,
+    Away,
     NoCall,
 }
 
@@ -97,6 +97,7 @@ pub enum EndShape {
     Memory,
     Link,
     Server,
+    Place,
     Name,
     Child,
     Pending,
@@ -108,7 +109,7 @@ pub enum EndShape {
 }
 
 /// All shapes.
-const SHAPES: [Shape; 64] = [
+const SHAPES: [Shape; 65] = [
     Shape::Head(HeadShape::Turn),
     Shape::Head(HeadShape::Tick),
     Shape::Head(HeadShape::Deliver),
@@ -154,7 +155,7 @@ const SHAPES: [Shape; 64] = [
     Shape::Group(GroupShape::Stale),
     Shape::Group(GroupShape::Proto),
     Shape::Group(GroupShape::NoChild),
-    Shape::Group(GroupShape::Pinned),
+    Shape::Group(GroupShape::Away),
     Shape::Group(GroupShape::NoCall),
     Shape::End(EndShape::Final),
     Shape::End(EndShape::Ended),
@@ -165,6 +166,7 @@ const SHAPES: [Shape; 64] = [
     Shape::End(EndShape::Memory),
     Shape::End(EndShape::Link),
     Shape::End(EndShape::Server),
+    Shape::End(EndShape::Place),
     Shape::End(EndShape::Name),
     Shape::End(EndShape::Child),
     Shape::End(EndShape::Pending),

@@ -166,7 +166,7 @@ impl GroupShape {
             GroupShape::Stale => plain("stale", &[Message]),
             GroupShape::Proto => plain("proto", &[Message]),
             GroupShape::NoChild => plain("nochild", &[Process]),
-            GroupShape::Pinned => plain("pinned", &[Process]),
+            GroupShape::Away => plain("away", &[]),
             GroupShape::NoCall => plain("nocall", &[Process]),
         }
     }
@@ -215,6 +215,7 @@ impl EndShape {
                 ],
             ),
             EndShape::Server => plain("server", &[Process, Number]),
+            EndShape::Place => plain("place", &[Process, AT, Machine, STANDING]),
             EndShape::Name => plain(
                 "name",
                 &[

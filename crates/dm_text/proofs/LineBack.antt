@@ -36,7 +36,7 @@ line_words-are (line.Stale i) h = (refl, (word_id i h.1.0, tt))
 line_words-are (line.Proto i) h = (refl, (word_id i h.1.0, tt))
 line_words-are (line.NoChild p) h = (refl, (word_pid 32 p (omega arith) h.1.0, tt))
 line_words-are (line.NoCall p) h = (refl, (word_pid 32 p (omega arith) h.1.0, tt))
-line_words-are (line.Pinned p) h = (refl, (word_pid 32 p (omega arith) h.1.0, tt))
+line_words-are line.Away h = (refl, tt)
 
 pub line_words-back : (l : Line) → LineFits l → line_of_words (line_words l) ≡ Some l
 line_words-back (line.Head s) h = head_back s h
@@ -67,4 +67,4 @@ line_words-back (line.Stale i) h = rw (read_id_back i h.1.0) refl
 line_words-back (line.Proto i) h = rw (read_id_back i h.1.0) refl
 line_words-back (line.NoChild p) h = rw (read_pid_back p h.1.0) refl
 line_words-back (line.NoCall p) h = rw (read_pid_back p h.1.0) refl
-line_words-back (line.Pinned p) h = rw (read_pid_back p h.1.0) refl
+line_words-back line.Away h = refl

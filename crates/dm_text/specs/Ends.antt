@@ -64,6 +64,7 @@ end_row (end.Registers p r pc) = said (codes "registers") ∷ process_word p ∷
 end_row (end.Memory p k bytes) = said (codes "memory") ∷ process_word p ∷ sized 8 k ∷ bytes_word bytes.items ∷ []
 end_row (end.Link p slot l) = said (codes "link") ∷ process_word p ∷ sized 8 slot ∷ link_row l
 end_row (end.Server p sent) = said (codes "server") ∷ process_word p ∷ sized 32 sent ∷ []
+end_row (end.Place p m s) = said (codes "place") ∷ process_word p ∷ said (codes "at") ∷ sized 8 m ∷ said (standing_word s) ∷ []
 end_row (end.Name name l) = said (codes "name") ∷ bytes_word name.items ∷ link_row l
 end_row (end.Child n p m) = said (codes "child") ∷ sized 32 n ∷ process_word p ∷ said (codes "at") ∷ sized 8 m ∷ []
 end_row (end.Pending id) = said (codes "pending") ∷ message_word id ∷ []

@@ -129,6 +129,11 @@ abbrev pub child_of : List (List ℕ) → Option EndLine
 child_of (n ∷ p ∷ at ∷ m ∷ []) = if is at (codes "at") then Some (λ n p m. end.Child n p m) <*> read_u32 n <*> read_pid p <*> read_u8 m else None
 child_of _ = None
 
+-- place P at M PLACE
+abbrev pub place_of : List (List ℕ) → Option EndLine
+place_of (p ∷ at ∷ m ∷ s ∷ []) = if is at (codes "at") then Some (λ p m s. end.Place p m s) <*> read_pid p <*> read_u8 m <*> read_standing s else None
+place_of _ = None
+
 -- queue P ID ..
 abbrev pub queue_of : List (List ℕ) → Option EndLine
 queue_of (p ∷ ids) = Some (λ p ids. end.Queue p ids) <*> read_pid p <*> all_read read_id ids
@@ -157,6 +162,7 @@ end_named w ws =
     else if is w (codes "memory") then memory_of ws
     else if is w (codes "link") then link_of ws
     else if is w (codes "server") then of2 read_pid read_u32 (λ p n. end.Server p n) ws
+    else if is w (codes "place") then place_of ws
     else if is w (codes "name") then name_of ws
     else if is w (codes "child") then child_of ws
     else if is w (codes "pending") then of1 read_id (λ i. end.Pending i) ws

@@ -34,6 +34,7 @@ HidesNothing (end.Registers p r pc) = ⊤
 HidesNothing (end.Memory p k bytes) = ⊤
 HidesNothing (end.Link p slot l) = l.to_kernel ≡ false
 HidesNothing (end.Server p sent) = ⊤
+HidesNothing (end.Place p m s) = ⊤
 HidesNothing (end.Name name l) = l.to_kernel ≡ false
 HidesNothing (end.Child n p m) = ⊤
 HidesNothing (end.Pending i) = ⊤

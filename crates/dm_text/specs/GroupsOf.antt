@@ -68,5 +68,5 @@ group_named w ws =
     else if is w (codes "proto") then of1 read_id line.Proto ws
     else if is w (codes "nochild") then of1 read_pid line.NoChild ws
     else if is w (codes "nocall") then of1 read_pid line.NoCall ws
-    else if is w (codes "pinned") then of1 read_pid line.Pinned ws
+    else if is w (codes "away") then of0 line.Away ws
     else None

@@ -75,7 +75,7 @@ line_row (line.Stale id) = said (codes "stale") ∷ message_word id ∷ []
 line_row (line.Proto id) = said (codes "proto") ∷ message_word id ∷ []
 line_row (line.NoChild p) = said (codes "nochild") ∷ process_word p ∷ []
 line_row (line.NoCall p) = said (codes "nocall") ∷ process_word p ∷ []
-line_row (line.Pinned p) = said (codes "pinned") ∷ process_word p ∷ []
+line_row line.Away = said (codes "away") ∷ []
 
 -- words, each after a space
 abbrev pub spaced : List (List ℕ) → List ℕ

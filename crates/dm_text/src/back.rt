@@ -162,6 +162,7 @@ pub fn end_fits(end: &EndLine)
             link_fits(link);
         }
         EndLine::Server { pid, sent } => process_fits(pid, 0, sent),
+        EndLine::Place { pid, at, .. } => process_fits(pid, at, 0),
         EndLine::Name { ref name, link } => {
             bytes_fit(name);
             link_fits(link);
@@ -227,11 +228,9 @@ pub fn line_fits(line: &Line)
         Line::Forwarded { id, to } => message_fits(id, to, 0),
         Line::Updated { id, count } => message_fits(id, 0, count),
         Line::Buried { id, count } => message_fits(id, 0, count),
-        Line::Migration { pid, .. }
-        | Line::Stays(pid)
-        | Line::NoChild(pid)
-        | Line::NoCall(pid)
-        | Line::Pinned(pid) => process_fits(pid, 0, 0),
+        Line::Migration { pid, .. } | Line::Stays(pid) | Line::NoChild(pid) | Line::NoCall(pid) =>
+            process_fits(pid, 0, 0),
+        Line::Away => {}
         Line::SentOn { pid, count } => process_fits(pid, 0, count),
         Line::Called { pid, count } => process_fits(pid, 0, count),
         Line::Lacks {

@@ -255,6 +255,15 @@ fn put_server(into: &mut Vec<u8>, pid: Pid, sent: u32) -> Result<(), NoMemory>
     put_line(into, "server", &[Process(pid), Number(sent)])
 }
 
+/// Writes the line of where a server stands.
+fn put_place(into: &mut Vec<u8>, pid: Pid, at: u8, standing: Standing) -> Result<(), NoMemory>
+    ensures ok { OnOk result (into.new.items ≡ into.old.items ++ spelled_line (end_words (end.Place pid at standing))) }
+    ensures err { OnErr result (Keeps into.old.items into.new.items) }
+{
+    let place = Name(standing_name(standing));
+    put_line(into, "place", &[Process(pid), Name("at"), Byte(at), place])
+}
+
 /// Writes the line of a message that waits for the manager.
 fn put_pending(into: &mut Vec<u8>, id: MsgId) -> Result<(), NoMemory>
     ensures ok { OnOk result (into.new.items ≡ into.old.items ++ spelled_line (end_words (end.Pending id))) }
@@ -323,6 +332,7 @@ pub(crate) fn put_end(into: &mut Vec<u8>, end: &EndLine) -> Result<(), NoMemory>
             ref link,
         } => put_held_link(into, pid, slot, link),
         EndLine::Server { pid, sent } => put_server(into, pid, sent),
+        EndLine::Place { pid, at, standing } => put_place(into, pid, at, standing),
         EndLine::Name { ref name, ref link } => put_linked(into, "name", &[Bytes(name)], link),
         EndLine::Child { number, pid, at } => put_child(into, number, pid, at),
         EndLine::Pending(id) => put_pending(into, id),

@@ -120,7 +120,7 @@ fn put_text(into: &mut Vec<u8>, line: &Line)
         Line::Proto(id) => put_message(into, b"proto", id),
         Line::NoChild(pid) => put_process(into, b"nochild", pid),
         Line::NoCall(pid) => put_process(into, b"nocall", pid),
-        Line::Pinned(pid) => put_process(into, b"pinned", pid),
+        Line::Away => put_alone(into, b"away"),
     }
 }
 

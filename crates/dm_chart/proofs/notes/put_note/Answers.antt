@@ -25,9 +25,9 @@ pub returns-in-NoCall : goal.returns-in-NoCall
 returns-in-NoCall c =
     subst (λ (l : Line). OnOk c.note_process-in-NoCall.result (c.note_process-in-NoCall.new.into.items ≡ c.args.into.now.items ++ draw_note c.args.place.now.frame.now c.args.place.now.m c.args.place.now.row (note_of c.args.before.now l))) (sym c.in-NoCall.is) c.note_process-in-NoCall.ensures
 
-pub returns-in-Pinned : goal.returns-in-Pinned
-returns-in-Pinned c =
-    subst (λ (l : Line). OnOk c.note_process-in-Pinned.result (c.note_process-in-Pinned.new.into.items ≡ c.args.into.now.items ++ draw_note c.args.place.now.frame.now c.args.place.now.m c.args.place.now.row (note_of c.args.before.now l))) (sym c.in-Pinned.is) c.note_process-in-Pinned.ensures
+pub returns-in-Away : goal.returns-in-Away
+returns-in-Away c =
+    subst (λ (l : Line). OnOk c.put_beside.result (c.put_beside.new.into.items ≡ c.args.into.now.items ++ draw_note c.args.place.now.frame.now c.args.place.now.m c.args.place.now.row (note_of c.args.before.now l))) (sym c.in-Away.is) c.put_beside.ensures
 
 pub returns-in-Stale : goal.returns-in-Stale
 returns-in-Stale c =
