@@ -2,6 +2,8 @@ pub mod Names
 pub mod After
 pub mod Leading
 pub mod Burials
+pub mod LastPieces
+pub mod EndLines
 pub mod Trail
 pub mod Lists
 pub mod Stages
@@ -23,4 +25,5 @@ pub mod Movers
 pub mod Routed
 pub mod ProtocolMoves
 pub mod LifeLines
+pub mod ServerLines
 pub mod Preds

@@ -1,10 +1,12 @@
 -- The end lines say of each process once whether it lives.
 use Rattle.dm_movelaws.proofs.Names.{◌≡◌, ◌≢◌, ◌⊎◌, ℕ, zero, suc, ◌+◌, ◌<◌, ◌≤◌, ◌==◌, ◌||◌, Bool, true, false, is_some, nat_le, List, [], ◌∷◌, ◌++◌, refl, ap, ◌∙◌, sym, subst, inl, inr, arith, if◌then◌else◌, Option, None, Some, cases_Bool}
-use Rattle.dm_movelaws.proofs.Names.{nat_tests, append-nil, filter-append, Pid, pid_of, pid_eq, PlainLink, MsgId, Boot, first_number, switchboard, manager, PlainProcess, Life, Alive, NamedLink, Pending, pid_eq-is, pid_eq-same, EndLine}
-use Rattle.dm_movelaws.proofs.Names.{block_line, memory_lines, home_with, joined_below, list_line, Addresses, Stood, standing_of, first_with, stood, doing_of, slot_line, link_lines, state_lines, alive_lines, process_lines, homes_with}
+use Rattle.dm_movelaws.proofs.Names.{nat_tests, Pid, pid_of, pid_eq, PlainLink, MsgId, Boot, first_number, switchboard, manager, PlainProcess, Life, Alive, NamedLink, Pending, pid_eq-is, pid_eq-same, EndLine}
+use Rattle.dm_movelaws.proofs.Names.{block_line, memory_lines, home_with, list_line, Addresses, Stood, standing_of, first_with, stood, doing_of, slot_line, link_lines, state_lines, alive_lines, process_lines, homes_with}
 use Rattle.dm_movelaws.proofs.Names.{each_process, name_lines, child_lines, pending_lines, queue_at, queue_lines, holding_lines, inbox_lines, stream_lines, server_lines, end_lines, Point, View, is_server, Run, run_always, tells_life}
 use Rattle.dm_movelaws.proofs.Names.{life_lines, IsSaid, LivesAreSaid, not, ◌&&◌, false≢true, MessageKind, Standing, or, Phase, Nowhere, Rests, Over, Moves, IsIn, knows, is_here, is_restart, is_early, Known, stands_by, IsPlace, awaits}
-use Rattle.dm_movelaws.proofs.Names.{living_phase, is_gone}
+use Rattle.dm_movelaws.proofs.Names.{living_phase, is_gone, or_first}
+use Rattle.dm_movelaws.proofs.Names.{sent_lines}
+use Rattle.dm_movelaws.proofs.EndLines.{Mute, mute_both, mute_homes, mute_machines, mute_list, one_first, one_last}
 use Rattle.dm_movelaws.proofs.Stages.Spares.{restart_late, restart_goes}
 use Rattle.dm_rule.specs.Phases as phases
 
@@ -31,7 +33,7 @@ pub record Placed (pt : Point) (p : Pid) : Type 0 where
   pub place : IsPlace pt p at
 
 -- a process is where it is found
-placed : (pt : Point) (p : Pid) (m : ℕ) (x : Standing) → m < pt.kernel.machines → stands_by (pt.view.known m p) ≡ Some x → Placed pt p
+pub placed : (pt : Point) (p : Pid) (m : ℕ) (x : Standing) → m < pt.kernel.machines → stands_by (pt.view.known m p) ≡ Some x → Placed pt p
 placed pt p m x less some =
     let awaits_stands : (k : Known) (x : Standing) → awaits k ≡ Some x → stands_by k ≡ Some x = λ k x e. grind (arith, nat_tests) in
     let n = pt.kernel.machines in
@@ -48,10 +50,10 @@ placed pt p m x less some =
     ]
 
 -- by its phase
-record Somewhere (v : View) (p : Pid) : Type 0 where
-  machine : ℕ
-  standing : Standing
-  stands : stands_by (v.known machine p) ≡ Some standing
+pub record Somewhere (v : View) (p : Pid) : Type 0 where
+  pub machine : ℕ
+  pub standing : Standing
+  pub stands : stands_by (v.known machine p) ≡ Some standing
 
 rests_stands : (v : View) (p : Pid) (at : ℕ) → knows (Rests at) at (v.known at p) ≡ true → Somewhere v p
 rests_stands v p at e =
@@ -88,7 +90,7 @@ moves_stands v p k s d id h =
     other false true e = absurd (false≢true e)
 
 -- a living process is in none of the other phases
-somewhere : (v : View) (p : Pid) (phase : Phase) → IsIn v p phase → is_gone phase ≡ false → Somewhere v p
+pub somewhere : (v : View) (p : Pid) (phase : Phase) → IsIn v p phase → is_gone phase ≡ false → Somewhere v p
 somewhere v p Nowhere h there = absurd (false≢true (sym there))
 somewhere v p (Rests at) h there = rests_stands v p at (h.known at)
 somewhere v p (Over at) h there = absurd (false≢true (sym there))
@@ -100,67 +102,41 @@ alive_placed b pt p x run alive =
     let at = somewhere pt.view p (phases_.of p) (phases_.each p) (living_phase pt p x (phases_.of p) run.based.phased alive (phases_.each p)) in
     placed pt p at.machine at.standing (run.found.known_within at.machine p (λ e. let f : None ≡ Some at.standing = sym (ap stands_by e) ∙ at.stands in cc)) at.stands
 
--- lines that say of no process whether it lives
-abbrev Mute : Pid → List EndLine → Type 0
-Mute p ls = life_lines p ls ≡ []
-
-both : (p : Pid) (xs ys : List EndLine) → life_lines p (xs ++ ys) ≡ life_lines p xs ++ life_lines p ys
-both p xs ys = filter-append (tells_life p) xs ys
-
-mute_both : (p : Pid) (xs ys : List EndLine) → Mute p xs → Mute p ys → Mute p (xs ++ ys)
-mute_both p xs ys h k = both p xs ys ∙ ap (λ (ls : List EndLine). ls ++ life_lines p ys) h ∙ k
-
--- all lines of many processes or machines
-mute_home : (p : Pid) (f : Pid → List EndLine) (home n : ℕ) → ((q : Pid) → Mute p (f q)) → Mute p (home_with f home n)
-mute_home p f home zero h = refl
-mute_home p f home (suc n) h = mute_both p (home_with f home n) (f (pid_of home (first_number + n))) (mute_home p f home n h) (h (pid_of home (first_number + n)))
-
-mute_homes : (p : Pid) (pt : Point) (f : Pid → List EndLine) (n : ℕ) → ((q : Pid) → Mute p (f q)) → Mute p (homes_with pt f n)
-mute_homes p pt f zero h = refl
-mute_homes p pt f (suc home) h = mute_both p (homes_with pt f home) (home_with f home (pt.kernel.made home)) (mute_homes p pt f home h) (mute_home p f home (pt.kernel.made home) h)
-
-mute_machines : (p : Pid) (f : ℕ → List EndLine) (n : ℕ) → ((m : ℕ) → Mute p (f m)) → Mute p (joined_below f n)
-mute_machines p f zero h = refl
-mute_machines p f (suc m) h = mute_both p (joined_below f m) (f m) (mute_machines p f m h) (h m)
-
 -- all but the lines of processes
-mute_list : (p : Pid) (f : List MsgId → EndLine) (ids : List MsgId) → ((is : List MsgId) → tells_life p (f is) ≡ false) → Mute p (list_line f ids)
-mute_list p f ids h = grind (arith, nat_tests)
-
-mute_names : (p : Pid) (a : Addresses) (n : ℕ) (ks : List NamedLink) → Mute p (name_lines a n ks)
+mute_names : (p : Pid) (a : Addresses) (n : ℕ) (ks : List NamedLink) → Mute (tells_life p) (name_lines a n ks)
 mute_names p a n [] = refl
 mute_names p a n (k ∷ ks) = mute_names p a (n + 1) ks
 
-mute_children : (p : Pid) (a : Addresses) (n : ℕ) (qs : List Pid) → Mute p (child_lines a n qs)
+mute_children : (p : Pid) (a : Addresses) (n : ℕ) (qs : List Pid) → Mute (tells_life p) (child_lines a n qs)
 mute_children p a n [] = refl
 mute_children p a n (q ∷ qs) = mute_children p a (n + 1) qs
 
-mute_pending : (p : Pid) (rs : List Pending) → Mute p (pending_lines rs)
+mute_pending : (p : Pid) (rs : List Pending) → Mute (tells_life p) (pending_lines rs)
 mute_pending p [] = refl
 mute_pending p (r ∷ rs) = mute_pending p rs
 
-mute_memory : (p q : Pid) (bytes : List ℕ) (k : ℕ) → Mute p (memory_lines q bytes k)
+mute_memory : (p q : Pid) (bytes : List ℕ) (k : ℕ) → Mute (tells_life p) (memory_lines q bytes k)
 mute_memory p q bytes zero = refl
 mute_memory p q bytes (suc k) =
     -- the lines of a process, but for the first
-    let mute_block : (p q : Pid) (k : ℕ) (bytes : List ℕ) → Mute p (block_line q k bytes) = λ p q k bytes. grind (arith, nat_tests) in
+    let mute_block : (p q : Pid) (k : ℕ) (bytes : List ℕ) → Mute (tells_life p) (block_line q k bytes) = λ p q k bytes. grind (arith, nat_tests) in
     search (mute_both, mute_block, mute_memory p q bytes k)
 
-mute_links : (p : Pid) (a : Addresses) (q : Pid) (k : ℕ) (ls : List (Option PlainLink)) → Mute p (link_lines a q k ls)
+mute_links : (p : Pid) (a : Addresses) (q : Pid) (k : ℕ) (ls : List (Option PlainLink)) → Mute (tells_life p) (link_lines a q k ls)
 mute_links p a q k [] = refl
-mute_links p a q k (l ∷ ls) = mute_both p (slot_line a q k l) (link_lines a q (k + 1) ls) (grind (arith, nat_tests)) (mute_links p a q (k + 1) ls)
+mute_links p a q k (l ∷ ls) = mute_both (tells_life p) (slot_line a q k l) (link_lines a q (k + 1) ls) (grind (arith, nat_tests)) (mute_links p a q (k + 1) ls)
 
-mute_state : (p : Pid) (a : Addresses) (q : Pid) (x : PlainProcess) → Mute p (state_lines a q x)
+mute_state : (p : Pid) (a : Addresses) (q : Pid) (x : PlainProcess) → Mute (tells_life p) (state_lines a q x)
 mute_state p a q x = search (mute_both, mute_memory, mute_links)
 
 -- another process's lines say nothing of this one
-other_alive : (p : Pid) (a : Addresses) (q : Pid) (x : PlainProcess) (o : Option Stood) → pid_eq p q ≡ false → Mute p (alive_lines a q x o)
+other_alive : (p : Pid) (a : Addresses) (q : Pid) (x : PlainProcess) (o : Option Stood) → pid_eq p q ≡ false → Mute (tells_life p) (alive_lines a q x o)
 other_alive p a q x None off = refl
 other_alive p a q x (Some s) off =
     let l = EndLine.Process q s.at s.standing (doing_of x.status) x.stopped x.sent in
     ap (λ (c : Bool). if c then l ∷ life_lines p (state_lines a q x) else life_lines p (state_lines a q x)) off ∙ mute_state p a q x
 
-other_life : (p : Pid) (pt : Point) (q : Pid) (l : Option Life) → pid_eq p q ≡ false → Mute p (process_lines pt q l)
+other_life : (p : Pid) (pt : Point) (q : Pid) (l : Option Life) → pid_eq p q ≡ false → Mute (tells_life p) (process_lines pt q l)
 other_life p pt q l off = grind (arith, nat_tests, other_alive)
 
 -- this process's own lines
@@ -176,16 +152,10 @@ not_same : (p q : Pid) → (p ≡ q → ⊥) → pid_eq p q ≡ false
 not_same p q h = grind (arith, nat_tests, pid_eq-is)
 
 abbrev Others : Pid → (Pid → List EndLine) → Type 0
-Others p f = (q : Pid) → pid_eq p q ≡ false → Mute p (f q)
-
-one_last : (p : Pid) (xs ys ls : List EndLine) → Mute p xs → life_lines p ys ≡ ls → life_lines p (xs ++ ys) ≡ ls
-one_last p xs ys ls h k = both p xs ys ∙ ap (λ (zs : List EndLine). zs ++ life_lines p ys) h ∙ k
-
-one_first : (p : Pid) (xs ys ls : List EndLine) → life_lines p xs ≡ ls → Mute p ys → life_lines p (xs ++ ys) ≡ ls
-one_first p xs ys ls h k = both p xs ys ∙ ap (λ (zs : List EndLine). life_lines p xs ++ zs) k ∙ append-nil (life_lines p xs) ∙ h
+Others p f = (q : Pid) → pid_eq p q ≡ false → Mute (tells_life p) (f q)
 
 -- past the last of a home, and in another home, it isn't
-past_home : (p : Pid) (f : Pid → List EndLine) (home n : ℕ) → Others p f → (p.home ≢ home) ⊎ (first_number + n ≤ p.num) → Mute p (home_with f home n)
+past_home : (p : Pid) (f : Pid → List EndLine) (home n : ℕ) → Others p f → (p.home ≢ home) ⊎ (first_number + n ≤ p.num) → Mute (tells_life p) (home_with f home n)
 past_home p f home zero others off = refl
 past_home p f home (suc n) others off =
     let q = pid_of home (first_number + n) in
@@ -197,7 +167,7 @@ past_home p f home (suc n) others off =
       | inl home_off ↦ inl home_off
       | inr past ↦ inr (omega (arith, past))
     ] in
-    mute_both p (home_with f home n) (f q) (past_home p f home n others before) (others q apart)
+    mute_both (tells_life p) (home_with f home n) (f q) (past_home p f home n others before) (others q apart)
 
 among_home : (p : Pid) (f : Pid → List EndLine) (n : ℕ) → Others p f → first_number ≤ p.num → p.num < first_number + n → life_lines p (home_with f p.home n) ≡ life_lines p (f p)
 among_home p f zero others least most = absurd (omega (arith, least, most))
@@ -207,29 +177,29 @@ among_home p f (suc n) others least most =
       | inl here ↦
           let num : p.num ≡ first_number + n = grind (arith, nat_tests) in
           let is : q ≡ p = λ i. record { home = p.home; num = sym num i } in
-          one_last p (home_with f p.home n) (f q) (life_lines p (f p)) (past_home p f p.home n others (inr (omega (arith, num)))) (ap (λ (x : Pid). life_lines p (f x)) is)
+          one_last (tells_life p) (home_with f p.home n) (f q) (life_lines p (f p)) (past_home p f p.home n others (inr (omega (arith, num)))) (ap (λ (x : Pid). life_lines p (f x)) is)
       | inr off ↦
           let less : p.num < first_number + n = grind (arith, nat_tests) in
           let apart : pid_eq p q ≡ false = not_same p q (λ e. let num : p.num ≡ first_number + n = ap (λ (x : Pid). x.num) e in omega (arith, num, less)) in
-          one_first p (home_with f p.home n) (f q) (life_lines p (f p)) (among_home p f n others least less) (others q apart)
+          one_first (tells_life p) (home_with f p.home n) (f q) (life_lines p (f p)) (among_home p f n others least less) (others q apart)
     ]
 
-past_homes : (p : Pid) (pt : Point) (f : Pid → List EndLine) (n : ℕ) → Others p f → n ≤ p.home → Mute p (homes_with pt f n)
+past_homes : (p : Pid) (pt : Point) (f : Pid → List EndLine) (n : ℕ) → Others p f → n ≤ p.home → Mute (tells_life p) (homes_with pt f n)
 past_homes p pt f zero others past = refl
 past_homes p pt f (suc home) others past =
-    mute_both p (homes_with pt f home) (home_with f home (pt.kernel.made home)) (past_homes p pt f home others (omega (arith, past))) (past_home p f home (pt.kernel.made home) others (inl (λ e. omega (arith, e, past))))
+    mute_both (tells_life p) (homes_with pt f home) (home_with f home (pt.kernel.made home)) (past_homes p pt f home others (omega (arith, past))) (past_home p f home (pt.kernel.made home) others (inl (λ e. omega (arith, e, past))))
 
 among_homes : (p : Pid) (pt : Point) (f : Pid → List EndLine) (n : ℕ) → Others p f → p.home < n → first_number ≤ p.num → p.num < first_number + pt.kernel.made p.home → life_lines p (homes_with pt f n) ≡ life_lines p (f p)
 among_homes p pt f zero others home least most = absurd (omega (arith, home))
 among_homes p pt f (suc n) others home least most = elim (cases_Bool (p.home == n)) [
   | inl here ↦
       let is : p.home ≡ n = grind (arith, nat_tests) in
-      one_last p (homes_with pt f n) (home_with f n (pt.kernel.made n)) (life_lines p (f p)) (past_homes p pt f n others (omega (arith, is)))
+      one_last (tells_life p) (homes_with pt f n) (home_with f n (pt.kernel.made n)) (life_lines p (f p)) (past_homes p pt f n others (omega (arith, is)))
       (ap (λ (x : ℕ). life_lines p (home_with f x (pt.kernel.made x))) (sym is) ∙ among_home p f (pt.kernel.made p.home) others least most)
   | inr off ↦
       let less : p.home < n = grind (arith, nat_tests) in
       let apart : p.home ≢ n = λ e. omega (arith, e, less) in
-      one_first p (homes_with pt f n) (home_with f n (pt.kernel.made n)) (life_lines p (f p)) (among_homes p pt f n others less least most) (past_home p f n (pt.kernel.made n) others (inl apart))
+      one_first (tells_life p) (homes_with pt f n) (home_with f n (pt.kernel.made n)) (life_lines p (f p)) (among_homes p pt f n others less least most) (past_home p f n (pt.kernel.made n) others (inl apart))
 ]
 
 -- all lines at the end
@@ -238,23 +208,24 @@ of_processes pt q = process_lines pt q (pt.kernel.processes q)
 
 end_by : (p : Pid) (pt : Point) (ls : List EndLine) → life_lines p (each_process pt (of_processes pt)) ≡ ls → life_lines p (end_lines pt) ≡ ls
 end_by p pt ls h =
-    let mute_queues : (p : Pid) (pt : Point) → Mute p (queue_lines pt) =
-    λ p pt. let mute_queue : (p : Pid) (v : View) (q : Pid) (o : Option Stood) → Mute p (queue_at v q o) = λ p v q o. grind (arith, nat_tests, mute_list) in search (mute_homes, mute_queue) in
+    let mute_queues : (p : Pid) (pt : Point) → Mute (tells_life p) (queue_lines pt) =
+    λ p pt. let mute_queue : (p : Pid) (v : View) (q : Pid) (o : Option Stood) → Mute (tells_life p) (queue_at v q o) = λ p v q o. grind (arith, nat_tests, mute_list) in search (mute_homes, mute_queue) in
     let lives = EndLine.Final ∷ each_process pt (of_processes pt) in
     let servers = lives ++ server_lines pt in
     let queues = servers ++ queue_lines pt in
     let holding = queues ++ holding_lines pt in
     let inboxes = holding ++ inbox_lines pt in
     let streams = inboxes ++ stream_lines pt in
-    let mute_streams : Mute p (stream_lines pt) = search (mute_machines, mute_list) in
-    let mute_holding : Mute p (holding_lines pt) = search (mute_machines, mute_homes, mute_list) in
-    let mute_servers : Mute p (server_lines pt) = search (mute_both, mute_names, mute_children, mute_pending) in
-    let mute_inboxes : Mute p (inbox_lines pt) = mute_machines p (λ m. list_line (EndLine.Inbox m) (pt.view.inbox m)) pt.kernel.machines (λ m. mute_list p (EndLine.Inbox m) (pt.view.inbox m) (λ is. refl)) in
-    one_first p streams (EndLine.Groups pt.view.groups ∷ []) ls
-    (one_first p inboxes (stream_lines pt) ls
-    (one_first p holding (inbox_lines pt) ls
-    (one_first p queues (holding_lines pt) ls
-    (one_first p servers (queue_lines pt) ls (one_first p lives (server_lines pt) ls h mute_servers) (mute_queues p pt)) mute_holding) mute_inboxes) mute_streams) refl
+    let mute_streams : Mute (tells_life p) (stream_lines pt) = search (mute_machines, mute_list) in
+    let mute_holding : Mute (tells_life p) (holding_lines pt) = search (mute_machines, mute_both, mute_homes, mute_list) in
+    let mute_sent : (p q : Pid) (n : ℕ) (o : Option Stood) → Mute (tells_life p) (sent_lines q n o) = λ p q n o. grind (arith, nat_tests) in
+    let mute_servers : Mute (tells_life p) (server_lines pt) = search (mute_both, mute_sent, mute_names, mute_children, mute_pending) in
+    let mute_inboxes : Mute (tells_life p) (inbox_lines pt) = mute_machines (tells_life p) (λ m. list_line (EndLine.Inbox m) (pt.view.inbox m)) pt.kernel.machines (λ m. mute_list (tells_life p) (EndLine.Inbox m) (pt.view.inbox m) (λ is. refl)) in
+    one_first (tells_life p) streams (EndLine.Groups pt.view.groups ∷ []) ls
+    (one_first (tells_life p) inboxes (stream_lines pt) ls
+    (one_first (tells_life p) holding (inbox_lines pt) ls
+    (one_first (tells_life p) queues (holding_lines pt) ls
+    (one_first (tells_life p) servers (queue_lines pt) ls (one_first (tells_life p) lives (server_lines pt) ls h mute_servers) (mute_queues p pt)) mute_holding) mute_inboxes) mute_streams) refl
 
 -- a process that was made is among those of its home
 made_among : (b : Boot) (pt : Point) (p : Pid) → Run b pt → is_some (pt.kernel.processes p) ≡ true → life_lines p (each_process pt (of_processes pt)) ≡ life_lines p (of_processes pt p)
@@ -263,7 +234,7 @@ made_among b pt p run made =
     let least = sane.sound.made.least p made in
     let most = sane.sound.made.most p made in
     let server : is_server p ≡ false = no_server p least in
-    let home = (run.kept.home p made).0 in
+    let home = (run.kept.home p (or_first (is_server p) (is_some (pt.kernel.processes p)) made)).0 in
     among_homes p pt (of_processes pt) pt.kernel.machines (λ q off. other_life p pt q (pt.kernel.processes q) off) home (grind (arith, nat_tests)) (grind (arith, nat_tests))
   where
     no_server : (q : Pid) → nat_le 3 q.num ≡ true → is_server q ≡ false
@@ -272,10 +243,10 @@ made_among b pt p run made =
         let c : pid_eq q manager ≡ false = grind (arith, nat_tests) in
         ap (λ (x : Bool). x || pid_eq q manager) a ∙ c
 
-never_made : (p : Pid) (pt : Point) (n : ℕ) → pt.kernel.processes p ≡ None → Mute p (homes_with pt (of_processes pt) n)
-never_made p pt n none = mute_homes p pt (of_processes pt) n (λ q. by q (pid_eq p q) refl)
+never_made : (p : Pid) (pt : Point) (n : ℕ) → pt.kernel.processes p ≡ None → Mute (tells_life p) (homes_with pt (of_processes pt) n)
+never_made p pt n none = mute_homes (tells_life p) pt (of_processes pt) n (λ q. by q (pid_eq p q) refl)
   where
-    by : (q : Pid) (c : Bool) → pid_eq p q ≡ c → Mute p (of_processes pt q)
+    by : (q : Pid) (c : Bool) → pid_eq p q ≡ c → Mute (tells_life p) (of_processes pt q)
     by q false off = other_life p pt q (pt.kernel.processes q) off
     by q true same = ap (λ (l : Option Life). life_lines p (process_lines pt q l)) (ap pt.kernel.processes (sym (pid_eq-is p q same)) ∙ none)
 

@@ -22,7 +22,7 @@ pub use Rattle.dm_rule.proofs.Apart.Turns.{calls_off_apart, migrates_apart, net_
 pub use Rattle.dm_rule.proofs.Bags.{bag_asked, cases_zero, out_of}
 pub use Rattle.dm_rule.proofs.Changes.{Follows, Lives, is_served}
 pub use Rattle.dm_rule.proofs.Groups.{GroupIs, acked_off, deliver_off, early_off, fits, migrate_off, tick_off}
-pub use Rattle.dm_rule.proofs.Hearing.{IsHeardLine, Kept, calls_off_kept, hears_kept, kept_forward, neither as neither_}
+pub use Rattle.dm_rule.proofs.Hearing.{IsHeardLine, Kept, calls_off_kept, hears_kept, kept_forward}
 pub use Rattle.dm_rule.proofs.Homes.{HomesAre}
 pub use Rattle.dm_rule.proofs.Homes.Lines.{acting_label}
 pub use Rattle.dm_rule.proofs.Homes.Parts.{acting_taken}
@@ -31,7 +31,7 @@ pub use Rattle.dm_rule.proofs.Letters.{from_kernel, gone_in, letter_of}
 pub use Rattle.dm_rule.proofs.Lines.{at_machine_off, at_record_off, past_place, without_counts}
 pub use Rattle.dm_rule.proofs.Moves.Called.{called_off, unheld}
 pub use Rattle.dm_rule.proofs.Moves.Lists.{emptied}
-pub use Rattle.dm_rule.proofs.Moves.Rows.{accepted_off, asked_off, frozen_off, home_again, home_off, lacks_off, left_off, memory_off, proto_off, restarted_off, state_off}
+pub use Rattle.dm_rule.proofs.Moves.Rows.{accepted_off, asked_off, frozen_off, home_again, home_off, lacks_off, left_off, memory_off, proto_off, restarted_off}
 pub use Rattle.dm_rule.proofs.Moves.Sent.{least_of as either, fits_packet, fits_put, line_next}
 pub use Rattle.dm_rule.proofs.Moves.States.{kernels_by}
 pub use Rattle.dm_rule.proofs.Names.{AddressesOn, Asks, Comes, ComesIn, IsOn, IsQuiet, IsToken, Nowhere, One, Over, Spares, StoodOnTrail, Trail, Trails, TrailsAlways, Trodden, act_of, actor, addresses_by, along, append-nil, append_assoc}
@@ -43,7 +43,7 @@ pub use Rattle.dm_rule.proofs.Pairs.Lines.{AllFit, line_view, onward, pair_same,
 pub use Rattle.dm_rule.proofs.Pairs.Migrating.{calls_off_fit, migrates_fit}
 pub use Rattle.dm_rule.proofs.Pairs.Stand.{set_is, set_other}
 pub use Rattle.dm_rule.proofs.Pairs.Turns.{turns_fit}
-pub use Rattle.dm_rule.proofs.Phases.Always.{bury_away, ended_away, living_phase, phases_always}
+pub use Rattle.dm_rule.proofs.Phases.Always.{bury_away, ended_away, living_phase, phases_always, server_phase}
 pub use Rattle.dm_rule.proofs.Phases.Answers.{Remains, stale_left}
 pub use Rattle.dm_rule.proofs.Phases.Calm.{Calm, Plain, between_of, calm_about, calm_in, calm_same, other_than}
 pub use Rattle.dm_rule.proofs.Phases.Ends.{is_gone, moves_there}
@@ -78,7 +78,9 @@ pub use Rattle.dm_rule.proofs.Turns.{created_off, ended_off, serving_off}
 pub use Rattle.dm_rule.specs.Acts.{Act}
 pub use Rattle.dm_rule.specs.Addresses.{child_gets}
 pub use Rattle.dm_rule.specs.Ends.{Stood, alive_lines, awaits, child_lines, doing_of, each_process, end_lines, first_with, holding_lines, homes_with, inbox_lines, link_lines, name_lines, pending_lines, process_lines, queue_at, queue_lines}
+pub use Rattle.dm_rule.specs.Ends.{is_moved, place_line, sent_lines, stands_here}
 pub use Rattle.dm_rule.specs.Ends.{server_lines, slot_line, standing_of, state_lines, stood, stood_at, stream_lines}
+pub use Rattle.dm_rule.specs.Migrating.{Size, size_of}
 pub use Rattle.dm_rule.specs.Migrating.{answers_in, behind_among, by_known, holders_numbered, holders_of, slot_holders}
 pub use Rattle.dm_rule.specs.Rule.{handles, landing_parts}
 pub use Rattle.dm_rulelaws.proofs.Based.Always.{based_always, based_group}
@@ -100,15 +102,15 @@ pub use Rattle.dm_rulelaws.proofs.Found.Groups.{queued_for, told_for, told_there
 pub use Rattle.dm_rulelaws.proofs.Found.Labels.{fixed_home}
 pub use Rattle.dm_rulelaws.proofs.Found.Lists.{more_front}
 pub use Rattle.dm_rulelaws.proofs.Found.Parts.{again_same, own_fresh, own_outside, plain_own}
-pub use Rattle.dm_rulelaws.proofs.Found.Real.{made_free, named_real, or_cases, server_fixed}
+pub use Rattle.dm_rulelaws.proofs.Found.Real.{made_free, named_real, or_cases}
 pub use Rattle.dm_rulelaws.proofs.Goes.Always.{front, front_own, own_by, stands_first, told_of}
 pub use Rattle.dm_rulelaws.proofs.Goes.Front.{here_free}
-pub use Rattle.dm_rulelaws.proofs.Goes.Own.{apart_is, destination_knows, server_leaves, source_knows}
+pub use Rattle.dm_rulelaws.proofs.Goes.Own.{apart_is, destination_knows, source_knows}
 pub use Rattle.dm_rulelaws.proofs.Goes.Parts.{some_is}
 pub use Rattle.dm_rulelaws.proofs.Goes.Runs.{Both, both_group, both_start}
 pub use Rattle.dm_rulelaws.proofs.Goes.Serves.{first_is}
 pub use Rattle.dm_rulelaws.proofs.Goes.Turns.{times_more, times_self}
-pub use Rattle.dm_rulelaws.proofs.Names.{About, Addresses, Again, Alive, AllSayable, Answer, AskedBy, AtHome, BagStep, Bool, Boot, BootImage, BootProcess, Called, Child, Direction, Due, Enclosed, Ended, Forward, Frozen, Gets, Grown, Held}
+pub use Rattle.dm_rulelaws.proofs.Names.{About, Addresses, Again, Alive, AllSayable, Answer, AskedBy, ToBoard, AtHome, BagStep, Bool, Boot, BootImage, BootProcess, Called, Child, Direction, Due, Enclosed, Ended, Forward, Frozen, Gets, Grown, Held}
 pub use Rattle.dm_rulelaws.proofs.Names.{Here, Holder, InPhases, Inbox, Incoming, IsIn, IsLeft, IsNet, IsNetLine, IsPending, IsStep, IsValid, KernelFits, Known, KnownStands, Label, Leads, LeadsBy, LeftOver, Life, LifeGrows, Line, Links}
 pub use Rattle.dm_rulelaws.proofs.Names.{List, Load, Manager, MessageKind, MoveNote, Moves, Moving, MsgId, Name, Named, NamedLink, None, NothingElse, Of, OneKernel, Option, Outcome, Outside, Owner, Owns, Pair, Part, Pending, PendingKind}
 pub use Rattle.dm_rulelaws.proofs.Names.{Phase, Phased, Pid, Place, PlainLink, PlainMessage, PlainProcess, PlainStatus, PlainWhat, Point, Queue, Ready, ReceivedAt, Receiver, Reply, Rests, Rooted, Routes, SaidOn, Sane, Sayable, Says, Sender}
@@ -129,7 +131,7 @@ pub use Rattle.dm_rulelaws.proofs.Names.{parts, pending_of, phased_group, phased
 pub use Rattle.dm_rulelaws.proofs.Names.{proto_known, pulls_piece, put_at, put_told_off, puts, queued_known, receiver_in, receiver_of, reception, refl, rejoins, replay, resends_net, rests_here, right_true, rooted, sane_line, second, seen}
 pub use Rattle.dm_rulelaws.proofs.Names.{seen_none, sender_in, sender_of, sends_on, sent_at, served_keeps, served_told, sets, slice_get, sort_of, source_holds, spelled, standing, stands_right, start, start-sound, status_awaits, stayed}
 pub use Rattle.dm_rulelaws.proofs.Names.{subst, suc, switchboard, sym, take, taken_id, takes_block, takes_chunk, target_in, target_of, tells_asker, tells_between, tells_end, tells_onward, times, times-append, to_kernel, to_of, token_at}
-pub use Rattle.dm_rulelaws.proofs.Names.{token_is, told_between, told_ended, told_here, told_server, told_some, told_step, topic_by, true, turn_off, under_way, untaken, updated, updates, view_after, with_label, with_note, with_process}
+pub use Rattle.dm_rulelaws.proofs.Names.{token_is, told_between, told_ended, told_here, told_some, told_step, topic_by, true, turn_off, under_way, untaken, updated, updates, view_after, with_label, with_note, with_process}
 pub use Rattle.dm_rulelaws.proofs.Names.{with_sent, without_front, without_id, without_message, without_note, zero, ℕ, ⊤, ◌&&◌, ◌++◌, ◌+◌, ◌-◌, ◌/◌, ◌<◌, ◌==◌, ◌||◌, ◌∙◌, ◌∷◌, ◌≡◌, ◌≢◌, ◌≤◌, ◌⊎◌}
 pub use Rattle.dm_rulelaws.proofs.Own.Told.{is_place, own_sort}
 pub use Rattle.dm_rulelaws.proofs.Queued.{IsQueued}
@@ -140,7 +142,7 @@ pub use Rattle.dm_rulelaws.specs.Found.{ListsStand}
 pub use Rattle.dm_movelaws.specs.Asked.{AnsweredAlways, AnswersHaveCauses, FollowsWhileMoving, HasCause, IsCause, IsSaidOf, MovedIsSaid, asks_move}
 pub use Rattle.dm_movelaws.specs.AtRest.{AllForgotten, AtRest, AtRestAlways, DropsAlways, IsAt, IsWaiting, is_moving}
 pub use Rattle.dm_movelaws.specs.Counts.{CountsKept, CountsStay, gives_to, in_next, is_filled, is_owned, refilled}
-pub use Rattle.dm_movelaws.specs.Ends.{EndsAlways, asks, count, ends, is_answer_by, is_answered_next, is_for, own_ends}
+pub use Rattle.dm_movelaws.specs.Ends.{EndsAlways, asks, count, ends, is_answer_by, is_answered_next, is_away_line, is_away_next, is_for, own_asks, own_ends}
 pub use Rattle.dm_movelaws.specs.Forwards.{ForwardsTell, RequestsTell, Tells}
 pub use Rattle.dm_movelaws.specs.LifeLines.{IsPlace, IsSaid, LivesAreSaid, life_lines, stands_by, tells_life}
 pub use Rattle.dm_movelaws.specs.Links.{CountsPromise, IsThere}
@@ -155,6 +157,7 @@ pub use Rattle.dm_movelaws.specs.Protocol.{ProtocolMoves}
 pub use Rattle.dm_movelaws.specs.Real.{IsAboutReal, IsReal, Kernel, Made, RealAlways, Server}
 pub use Rattle.dm_movelaws.specs.Requested.{AnswersAreSo, AnswersSo, Directive, IsAsked, IsDirected, IsNamedMachine, IsRefused, IsSo, MovesAsNamed, Request, starts, takes_in}
 pub use Rattle.dm_movelaws.specs.Routed.{AreRouted, RoutedAlways, routed, with_put}
+pub use Rattle.dm_movelaws.specs.ServerLines.{IsServerSaid, ServersAreSaid, lines_of_place, server_sent, tells_server}
 pub use Rattle.dm_movelaws.specs.Stages.{Calling, Lacking, Mark, Reached, Staying, StepsInOrder, follows, in_order, left_open, mark_for, mark_in, marks, step_number, with_mark}
 pub use Rattle.dm_movelaws.specs.Stales.{StalesAlways, calls, is_about, stales}
 pub use Rattle.dm_movelaws.specs.Trail.{AddressesLead, ByForward, ByHolder, ByOwn, ByRequest, ByUpdate, IsLast, IsLed, IsNamed, Reaches, TrailStands, TrailsStand, ends_walk, has_it}

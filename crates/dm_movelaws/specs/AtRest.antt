@@ -10,6 +10,7 @@ use Rattle.dm_message.specs.Plain.{PlainMessage}
 use Rattle.dm_onekernel.specs.declared.boot.Boot.{Boot}
 use Rattle.dm_onekernel.specs.Boot.{IsValid}
 use Rattle.dm_onekernel.specs.Kernel.{Alive}
+use Rattle.dm_rule.specs.View.{is_server}
 use Rattle.dm_onekernel.specs.PlainProcess.{PlainProcess}
 use Rattle.dm_schedule.specs.declared.Step.{Step}
 use Rattle.dm_rule.specs.Laws.{Leads}
@@ -47,8 +48,9 @@ abbrev pub AllForgotten : Point → Type 0
 AllForgotten pt = (m : ℕ) (p : Pid) → HasEnded pt.kernel p → pt.view.known m p ≡ Unknown
 
 pub record AtRest (pt : Point) : Type 0 where
-  -- each living process is on one machine
+  -- each living process is on one machine, and so is each server
   pub lives : (p : Pid) (x : PlainProcess) → pt.kernel.processes p ≡ Some (Alive x) → IsAt pt.view p
+  pub servers : (p : Pid) → is_server p ≡ true → IsAt pt.view p
   pub forgotten : AllForgotten pt
   -- no process is leaving or coming, and nothing is held back for one
   pub still : (m : ℕ) (p : Pid) → is_moving (pt.view.known m p) ≡ false

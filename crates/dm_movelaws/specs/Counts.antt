@@ -11,7 +11,7 @@ use Rattle.dm_onekernel.specs.Boot.{IsValid}
 use Rattle.dm_schedule.specs.declared.Step.{Step}
 use Rattle.dm_line.specs.declared.line.Line.{Line}
 use Rattle.dm_line.specs.declared.line.Line.TheVariants as line
-use Rattle.dm_rule.specs.Addresses.{Holder, Slot, Owner, Receiver, Sender, Enclosed, Child, Name, Answer, AskedBy, Gets, holder_eq, gives, belongs_to, leads_to}
+use Rattle.dm_rule.specs.Addresses.{Holder, Slot, Owner, Receiver, Sender, Enclosed, Child, Name, Answer, AskedBy, ToBoard, Gets, holder_eq, gives, belongs_to, leads_to}
 use Rattle.dm_rule.specs.Laws.{IsStep, Leads}
 use Rattle.dm_rule.specs.Parts.{Spelled}
 use Rattle.dm_rule.specs.Point.{Point, label_of, first_point, after_line}
@@ -30,6 +30,7 @@ is_owned (Child n) = true
 is_owned (Name n) = true
 is_owned (Answer n) = true
 is_owned (AskedBy p) = false
+is_owned ToBoard = true
 
 -- a step of the kernel without machines gives a holder an address
 abbrev pub gives_to : Holder → List Gets → Bool

@@ -1,4 +1,4 @@
--- Each directive to move a process comes to one end.
+-- Each directive to move a process or a server comes to one end, where the manager isn't on its way.
 use Rattle.std.specs.Prelude.{◌≡◌, ℕ, ◌+◌, ◌≤◌, Bool, true, false, not, ◌&&◌, if◌then◌else◌, List, [], ◌∷◌}
 use Rattle.std.specs.declared.option.Option.{Option}
 use Rattle.std.specs.declared.option.Option.TheVariants.{None, Some}
@@ -61,7 +61,7 @@ asks p (line.Stale id) = false
 asks p (line.Proto id) = false
 asks p (line.NoChild q) = false
 asks p (line.NoCall q) = false
-asks p (line.Pinned q) = false
+asks p line.Away = false
 
 abbrev pub is_for : Pid → Option Told → Bool
 is_for p None = false
@@ -76,10 +76,9 @@ ends_stage p q stage.StateTaken = false
 ends_stage p q stage.MemoryTaken = false
 ends_stage p q stage.Left = false
 
--- its end: the manager has no such child, or it is a server; it was there already, had ended, moved, or stays
+-- its end: the manager has no such child; it was there already, had ended, moved, or stays
 abbrev pub ends : (MsgId → Option Told) → Pid → Line → Bool
 ends told p (line.NoChild q) = pid_eq p q
-ends told p (line.Pinned q) = pid_eq p q
 ends told p (line.Here id) = is_for p (told id)
 ends told p (line.NoMove id) = is_for p (told id)
 ends told p (line.Migration s q) = ends_stage p q s
@@ -106,6 +105,7 @@ ends told p (line.Stale id) = false
 ends told p (line.NoCall q) = false
 ends told p (line.Lacks q s b) = false
 ends told p (line.Proto id) = false
+ends told p line.Away = false
 
 -- a request to move is answered
 abbrev pub is_answer_by : Act → Bool
@@ -122,10 +122,25 @@ abbrev pub own_ends : (MsgId → Option Told) → Pid → List Line → ℕ
 own_ends told p [] = 0
 own_ends told p (l ∷ ls) = (if ends told p l && not (is_answered_next ls) then 1 else 0) + own_ends told p ls
 
--- wherever the rule leads, there are no more ends than directives to move a process; and as many, where nothing is on its way
+-- a directive that finds the manager on its way asks nobody
+abbrev pub is_away_line : Line → Bool
+is_away_line line.Away = true
+is_away_line l = false
+
+abbrev pub is_away_next : List Line → Bool
+is_away_next [] = false
+is_away_next (l ∷ ls) = is_away_line l
+
+-- how many of these lines are directives to move the process that the manager heard
+abbrev pub own_asks : Pid → List Line → ℕ
+own_asks p [] = 0
+own_asks p (l ∷ ls) = (if asks p l && not (is_away_next ls) then 1 else 0) + own_asks p ls
+
+-- wherever the rule leads, there are no more ends than directives to move a process or a server that the manager heard; and as many,
+-- where nothing is on its way
 pub record Ends (pt : Point) (ls : List Line) (p : Pid) : Type 0 where
-  pub few : own_ends pt.view.told p ls ≤ count (asks p) ls
-  pub all : IsQuiet pt.kernel.machines pt.view → own_ends pt.view.told p ls ≡ count (asks p) ls
+  pub few : own_ends pt.view.told p ls ≤ own_asks p ls
+  pub all : IsQuiet pt.kernel.machines pt.view → own_ends pt.view.told p ls ≡ own_asks p ls
 
 abbrev pub EndsAlways : Type 0
 EndsAlways = (b : Boot) (es : List Step) (ls : List Line) (pt : Point) (p : Pid) → IsValid b → LeadsBy b (first_point b) es ls pt → Ends pt ls p

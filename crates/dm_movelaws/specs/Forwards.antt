@@ -35,9 +35,9 @@ pub record Forwards (b : Boot) (pt : Point) (d : Step) (group : Spelled) (p q : 
 
 -- it goes by the forwarding address of the machine that acts; and behind the group a new update is under way that tells p this address
 pub record Tells (d : Step) (pt next : Point) (p q : Pid) (to : ℕ) : Type 0 where
-  pub turn : d ≡ step.Turn (actor d)
+  pub turn : d ≡ step.Turn (actor pt.view d)
   pub moves : ℕ
-  pub known : pt.view.known (actor d) q ≡ Forward to moves
+  pub known : pt.view.known (actor pt.view d) q ≡ Forward to moves
   pub update : MsgId
   pub new : pt.view.told update ≡ None
   pub way : IsUnderWay next.view update p q (record { at = to; moves = moves })

@@ -19,4 +19,5 @@ pub mod Routed
 pub mod Protocol
 pub mod Stales
 pub mod LifeLines
+pub mod ServerLines
 pub mod Predecessors

@@ -26,6 +26,7 @@ tells_life p (end.Registers q r pc) = false
 tells_life p (end.Memory q block bytes) = false
 tells_life p (end.Link q slot l) = false
 tells_life p (end.Server q sent) = false
+tells_life p (end.Place q at stands) = false
 tells_life p (end.Name name l) = false
 tells_life p (end.Child n q at) = false
 tells_life p (end.Pending id) = false

@@ -41,4 +41,4 @@ pub record LeadsThere (b : Boot) (sent pt : Point) (between : List Step) (p q : 
 abbrev pub CountsPromise : Type 0
 CountsPromise =
     (b : Boot) (before between : List Step) (start pt : Point) (d : Step) (sent : Spelled) (p q : Pid) (place : Place) → IsValid b → Leads b (first_point b) before start → Forwards b start d sent p q place.at
-    → start.view.known (actor d) q ≡ Forward place.at place.moves → Leads b sent.point between pt → IsQuiet pt.kernel.machines pt.view → LeadsThere b sent.point pt between p q place
+    → start.view.known (actor start.view d) q ≡ Forward place.at place.moves → Leads b sent.point between pt → IsQuiet pt.kernel.machines pt.view → LeadsThere b sent.point pt between p q place

@@ -1,5 +1,5 @@
--- What a process that moves is spared, by the printed lines: from its line of step 1 on, until step 8 or `stays` is said of it.
-use Rattle.std.specs.Prelude.{◌≡◌, ◌≢◌, ⊤, Bool, true, false, is_some, List, [], ◌∷◌, ◌++◌}
+-- What a process or a server that moves is spared, by the printed lines: from its line of step 1 on, until step 8 or `stays` is said of it.
+use Rattle.std.specs.Prelude.{◌≡◌, ◌≢◌, ⊤, Bool, true, false, if◌then◌else◌, is_some, List, [], ◌∷◌, ◌++◌}
 use Rattle.std.specs.declared.option.Option.{Option}
 use Rattle.std.specs.declared.option.Option.TheVariants.{None, Some}
 use Rattle.dm_link.specs.declared.Pid.{Pid}
@@ -11,8 +11,9 @@ use Rattle.dm_message.specs.Plain.{PlainMessage}
 use Rattle.dm_onekernel.specs.declared.boot.Boot.{Boot}
 use Rattle.dm_onekernel.specs.declared.label.Label.{Label}
 use Rattle.dm_onekernel.specs.declared.label.Label.TheVariants as label
-use Rattle.dm_onekernel.specs.Boot.{IsValid}
-use Rattle.dm_onekernel.specs.Kernel.{OneKernel}
+use Rattle.dm_link.specs.Names.{pid_eq}
+use Rattle.dm_onekernel.specs.Boot.{IsValid, manager, switchboard}
+use Rattle.dm_onekernel.specs.Kernel.{Manager, OneKernel, Switchboard}
 use Rattle.dm_onekernel.specs.Start.{start}
 use Rattle.dm_onekernel.specs.Step.{replay}
 use Rattle.dm_schedule.specs.declared.Step.{Step}
@@ -65,14 +66,25 @@ OpenMoves =
     (b : Boot) (es : List Step) (ls : List Line) (pt : Point) (p : Pid) → IsValid b → LeadsBy b (first_point b) es ls pt
     → (phase : Phase) × IsIn pt.view p phase × (is_due phase ≡ false) × (open_mark None (marks p ls) ≡ mark_while phase)
 
--- a group leaves a process alone
+-- the plain value of a server, if this is one: what the switchboard or the manager keeps
+pub data ServerValue : Type 0 where
+  BoardValue : (board : Switchboard) → ServerValue
+  ManagerValue : (manager : Manager) → ServerValue
+
+abbrev pub server_value : Pid → OneKernel → Option ServerValue
+server_value p s = if pid_eq p switchboard then Some (BoardValue s.switchboard) else if pid_eq p manager then Some (ManagerValue s.manager) else None
+
+-- a group leaves a process or a server alone
 pub record IsSpared (pt : Point) (w : Spelled) (p : Pid) : Type 0 where
   -- no ran, call, send, wait, out, end, receive or refuse is the process's, and no message for it is served
   pub others : AllSpare pt.kernel p w.lines
+  -- no message for it is taken, where it is a server: none that is in the bag before such a line
+  pub untaken : (earlier later : List Line) (before : Point) (id : MsgId) (m : PlainMessage) → w.lines ≡ earlier ++ line.Label (label.Took id) ∷ later → after pt earlier ≡ Some before → before.kernel.bag id ≡ Some m → m.to ≢ p
   -- no message for it is dropped: none that is in the bag before such a line
   pub kept : (earlier later : List Line) (before : Point) (id : MsgId) (m : PlainMessage) → w.lines ≡ earlier ++ line.Label (label.Dropped id) ∷ later → after pt earlier ≡ Some before → before.kernel.bag id ≡ Some m → m.to ≢ p
-  -- its plain value stays
+  -- its plain value stays, and that of a server too
   pub same : w.point.kernel.processes p ≡ pt.kernel.processes p
+  pub server : server_value p w.point.kernel ≡ server_value p pt.kernel
 
 -- wherever the rule leads: as long as by the lines so far a migration of a process is open, the next group leaves it alone
 abbrev pub OpenSpares : Type 0
@@ -116,6 +128,7 @@ pub record StaysAt (b : Boot) (earlier : List Line) (l : Line) (p : Pid) : Type 
   pub goes : kernel_after before (label_of l) ≡ Some behind
   pub anothers : IsAnothersIf before p (label_of l)
   pub same : behind.processes p ≡ before.processes p
+  pub server : server_value p behind ≡ server_value p before
 
 -- each line between a process's step 1 and its step 8 or `stays` is another's, and leaves its plain value
 abbrev pub OpenStays : Type 0
@@ -127,8 +140,8 @@ abbrev pub AllOpen : Pid → List Line → List Line → Type 0
 AllOpen p earlier [] = ⊤
 AllOpen p earlier (l ∷ ls) = (is_open p earlier ≡ true) × AllOpen p (earlier ++ l ∷ []) ls
 
--- so between a process's step 1 and its step 8 or `stays` its plain value is the same behind all lines
+-- so between the step 1 of a process or a server and its step 8 or `stays` its plain value is the same behind all lines
 abbrev pub OpenKeeps : Type 0
 OpenKeeps =
     (b : Boot) (es : List Step) (ls earlier between later : List Line) (pt : Point) (p : Pid) (s t : OneKernel) → IsValid b → LeadsBy b (first_point b) es ls pt → ls ≡ earlier ++ (between ++ later) → AllOpen p earlier between
-    → replay (start b) (labels earlier) ≡ Some s → replay s (labels between) ≡ Some t → t.processes p ≡ s.processes p
+    → replay (start b) (labels earlier) ≡ Some s → replay s (labels between) ≡ Some t → (t.processes p ≡ s.processes p) × (server_value p t ≡ server_value p s)

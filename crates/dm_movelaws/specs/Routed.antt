@@ -44,7 +44,7 @@ with_put (line.Stale id) ids = ids
 with_put (line.Proto id) ids = ids
 with_put (line.NoChild q) ids = ids
 with_put (line.NoCall q) ids = ids
-with_put (line.Pinned q) ids = ids
+with_put line.Away ids = ids
 
 -- all messages that these lines route, on whatever pair, each as often as it is
 abbrev pub routed : List Line → List MsgId

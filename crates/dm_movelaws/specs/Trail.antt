@@ -15,19 +15,12 @@ use Rattle.dm_rule.specs.Homes.{names}
 use Rattle.dm_rule.specs.Laws.{Leads}
 use Rattle.dm_rule.specs.Point.{Point, first_point}
 use Rattle.dm_rule.specs.Trails.{Trails, IsOn, first_trodden, along, is_alive, leads}
+pub use Rattle.dm_rule.specs.Phases.{has_it}
 pub use Rattle.dm_rule.specs.Trails.{is_made}
 use Rattle.dm_rule.specs.View.{Known, Unknown, Here, Frozen, Incoming, Forward, Told, is_kernels}
 use Rattle.dm_rule.specs.View as view
 use Rattle.dm_rulelaws.specs.Found.{is_fixed}
 use Rattle.dm_rulelaws.specs.Order.{LeadsBy}
-
--- a machine has a process, or holds it while it leaves
-abbrev pub has_it : Known → Bool
-has_it Unknown = false
-has_it Here = true
-has_it (Frozen to) = true
-has_it (Incoming from) = false
-has_it (Forward at moves) = false
 
 -- a machine has a process, holds it while it leaves, or waits until it comes
 abbrev pub ends_walk : Known → Bool
@@ -64,10 +57,10 @@ pub record IsLast (t : Trails) (p : Pid) (place : Place) : Type 0 where
 pub record TrailStands (pt : Point) (t : Trails) : Type 0 where
   -- each trail begins at home
   pub begins : (p : Pid) → IsOn t p (unmoved p.home)
-  -- kernels and servers have only been at home
+  -- kernels have only been at home
   pub fixed : (p : Pid) → is_fixed p ≡ true → t p ≡ p.home ∷ []
-  -- and so has what was never made
-  pub unmade : (p : Pid) → pt.kernel.processes p ≡ None → t p ≡ p.home ∷ []
+  -- and so has what was never made and is no server
+  pub unmade : (p : Pid) → is_made pt.kernel p ≡ false → t p ≡ p.home ∷ []
   -- each place that is named for a process is on its trail
   pub named : (q : Pid) (place : Place) → IsNamed pt q place → IsOn t q place
   -- a machine that has a process, or holds it while it leaves, is the last of its trail, after as many moves
@@ -90,7 +83,7 @@ TrailsStand =
 pub record IsLed (pt : Point) (q : Pid) (place : Place) : Type 0 where
   -- the forwarding addresses lead to it, if it is no kernel, or to where it ended
   pub led : (q.num == 0) ≡ false → Reaches pt q place
-  -- a kernel is named at home, and so is a server
+  -- a kernel is named at home
   pub home : is_fixed q ≡ true → place ≡ unmoved q.home
   -- and whoever is no kernel is a server, or was made
   pub made : (q.num == 0) ≡ false → is_made pt.kernel q ≡ true

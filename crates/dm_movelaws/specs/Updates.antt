@@ -10,7 +10,7 @@ use Rattle.dm_onekernel.specs.Boot.{IsValid}
 use Rattle.dm_schedule.specs.declared.Step.{Step}
 use Rattle.dm_line.specs.declared.line.Line.{Line}
 use Rattle.dm_line.specs.declared.line.Line.TheVariants as line
-use Rattle.dm_rule.specs.Addresses.{Holder, Slot, Owner, Receiver, Sender, Enclosed, Child, Name, Answer, AskedBy, holder_eq, belongs_to, leads_to, is_behind}
+use Rattle.dm_rule.specs.Addresses.{Holder, Slot, Owner, Receiver, Sender, Enclosed, Child, Name, Answer, AskedBy, ToBoard, holder_eq, belongs_to, leads_to, is_behind}
 use Rattle.dm_rule.specs.Laws.{Leads}
 use Rattle.dm_rule.specs.Migrating.{holders_of, behind_among}
 use Rattle.dm_rule.specs.Parts.{Spelled}
@@ -34,6 +34,7 @@ is_owner (Child n) = false
 is_owner (Name n) = false
 is_owner (Answer n) = false
 is_owner (AskedBy p) = false
+is_owner ToBoard = false
 
 -- from where a group begins to where it leads
 pub record Updated (pt next : Point) (id : MsgId) (n : ℕ) : Type 0 where

@@ -19,10 +19,10 @@ kept_notes l o q = search arith
 kept_noted : (l : Placed) (o : Option Message) (i : MsgId) → (with_sent l o).noted i ≡ l.noted i
 kept_noted l o i = search arith
 
-kept_board : (l : Placed) (o : Option Message) → (with_sent l o).board ≡ l.board
+pub kept_board : (l : Placed) (o : Option Message) → (with_sent l o).board ≡ l.board
 kept_board l o = search arith
 
-kept_manager : (l : Placed) (o : Option Message) → (with_sent l o).manager ≡ l.manager
+pub kept_manager : (l : Placed) (o : Option Message) → (with_sent l o).manager ≡ l.manager
 kept_manager l o = search arith
 
 pub kept_processes : (l : Placed) (o : Option Message) (q : Pid) → (with_sent l o).processes q ≡ l.processes q

@@ -2,7 +2,7 @@
 use Rattle.dm_places.proofs.Names.{◌≡◌, Bool, false, refl, ap, ◌∙◌, sym, subst, inl, inr, if◌then◌else◌, option_map, Option, None, Some, cases_Bool, Pid, pid_eq, MsgId, Message, id_eq, PlainMessage, PlainWhat, plain_message, plain_what}
 use Rattle.dm_places.proofs.Names.{with_what, Process, Life, OneKernel, bind, plain_process, PlainProcess, pid_eq-is, id_eq-is, bind-is, View, Addresses, SameProcess, SameMessage, SameServers, Placed, Mirrors, MirrorsKernel, MirrorsMessage}
 use Rattle.dm_places.proofs.Names.{MirrorsPlaces, MirrorsProcess, with_message, with_process, with_sent, without_message, ℕ, Link, Place, place_of, Asker, Child, Name, Answer, AskedBy, AnswerNames, plain_note, with_note, without_note}
-use Rattle.dm_places.proofs.Names.{manager_request, arith}
+use Rattle.dm_places.proofs.Names.{manager_request, arith, ToBoard, acting_place, manager, switchboard}
 use Rattle.dm_onekernel.specs.Kernel as one
 use Rattle.dm_onekernel.specs.Service as service
 use Rattle.dm_onekernel.specs.Step as kernel
@@ -56,6 +56,17 @@ message_same a b i m w h = record { id = h.id; receiver = w.receiver ∙ h.recei
 pub answer_as : (o : Option Link) {x y : Place} → x ≡ y → AnswerNames o y → AnswerNames o x
 answer_as o {x} {y} e h = subst (AnswerNames o) (sym e) h
 
+-- a machine, after so many moves
+abbrev pub place_after : ℕ → ℕ → Place
+place_after m n = record { at = m; moves = n }
+
+-- where the servers act
+pub board_place : (s : OneKernel) (v : View) (a : Addresses) (l : Placed) → Mirrors s v a l → acting_place v switchboard ≡ place_after v.acting l.board.moves
+board_place s v a l h = ap (place_after v.acting) (sym h.places.board_moves)
+
+pub manager_place : (s : OneKernel) (v : View) (a : Addresses) (l : Placed) → Mirrors s v a l → acting_place v manager ≡ place_after v.acting l.manager.moves
+manager_place s v a l h = ap (place_after v.acting) (sym h.places.manager_moves)
+
 pub stays_process : (a : Addresses) (q : Pid) → SameProcess a a q
 stays_process a q = record { slot = λ k. refl; owner = refl }
 
@@ -63,7 +74,7 @@ pub stays_message : (a : Addresses) (i : MsgId) → SameMessage a a i
 stays_message a i = record { receiver = refl; sender = refl; enclosed = λ k. refl }
 
 pub stays_servers : (a : Addresses) → SameServers a a
-stays_servers a = record { child = λ n. refl; name = λ n. refl; answer = λ n. refl; asked = λ q. refl }
+stays_servers a = record { child = λ n. refl; name = λ n. refl; answer = λ n. refl; asked = λ q. refl; board = refl }
 
 -- processes once one was set
 set_places : (v : View) (a b : Addresses) (l : Placed) (p : Pid) (y : Option Process) → ((q : Pid) (x : Process) → l.processes q ≡ Some x → MirrorsProcess v a q x) → ((q : Pid) → pid_eq p q ≡ false → SameProcess a b q)
@@ -94,6 +105,9 @@ places_sent v a b l m h processes off on servers = record {
   child = λ n c e. servers.child n ∙ h.child n c e;
   answer = λ n r e. answer_as r.answer (servers.answer n) (h.answer n r e);
   asker = λ p k e. servers.asked p ∙ h.asker p k e;
+  board = servers.board ∙ h.board;
+  board_moves = h.board_moves;
+  manager_moves = h.manager_moves;
 }
 
 -- a process's and a message's
@@ -106,6 +120,9 @@ places_sends v a b l p y m h off on messages sent servers = record {
   child = λ n c e. servers.child n ∙ h.child n c e;
   answer = λ n r e. answer_as r.answer (servers.answer n) (h.answer n r e);
   asker = λ p k e. servers.asked p ∙ h.asker p k e;
+  board = servers.board ∙ h.board;
+  board_moves = h.board_moves;
+  manager_moves = h.manager_moves;
 }
 
 stood : (l : Placed) (id i : MsgId) (m : Message) (b : Bool) → (if b then None else l.bag i) ≡ Some m → l.bag i ≡ Some m
@@ -133,9 +150,9 @@ ends_mirrors s v a l p y h = record { plain = kernel_process s l p (one.Ended y)
 
 -- somebody waits to hear how a process's move ends, or nobody does any more
 pub noted_mirrors : (s : OneKernel) (v : View) (a b : Addresses) (l : Placed) (p : Pid) (k : Asker) → ((q : Pid) → SameProcess a b q) → ((i : MsgId) → SameMessage a b i) → ((n : ℕ) → b (Child n) ≡ a (Child n))
-    → ((n : ℕ) → b (Name n) ≡ a (Name n)) → ((n : ℕ) → b (Answer n) ≡ a (Answer n))
+    → ((n : ℕ) → b (Name n) ≡ a (Name n)) → ((n : ℕ) → b (Answer n) ≡ a (Answer n)) → b ToBoard ≡ a ToBoard
     → ((q : Pid) → pid_eq p q ≡ false → b (AskedBy q) ≡ a (AskedBy q)) → b (AskedBy p) ≡ place_of k.addr → Mirrors s v a l → Mirrors (one.with_note s p (plain_note k)) v b (with_note l p (manager_request k) k)
-noted_mirrors s v a b l p k processes messages child name answer off on h =
+noted_mirrors s v a b l p k processes messages child name answer board off on h =
     let g = h.places in
     record {
       plain = (search (arith, both_if));
@@ -146,6 +163,9 @@ noted_mirrors s v a b l p k processes messages child name answer off on h =
         child = λ n c e. child n ∙ g.child n c e;
         answer = λ n r e. answer_as r.answer (answer n) (g.answer n r e);
         asker = λ q o e. (search (arith, pid_eq-is));
+        board = board ∙ g.board;
+        board_moves = g.board_moves;
+        manager_moves = g.manager_moves;
       };
     }
 

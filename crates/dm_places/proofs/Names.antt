@@ -43,7 +43,7 @@ pub use Rattle.dm_rule.proofs.Homes.Serves.{child_at, gone_lands, nothing_lands,
 pub use Rattle.dm_rule.proofs.Homes.Slots.{emptied_link, past_call, set_link}
 pub use Rattle.dm_rule.proofs.Homes.Steps.{OnlySlots, gives_same, made_is, only_gives_by}
 pub use Rattle.dm_rule.proofs.Letters.{not_kernels}
-pub use Rattle.dm_rule.proofs.Names.{About, Addresses, Again, Alive, Answer, AskedBy, Bool, Boot, BootImage, BootProcess, CallNumber, Child, Direction, Enclosed, Ended, Fault, Forward, Frozen, Gets, Holder, Inbox, Incoming, IsStep, IsValid}
+pub use Rattle.dm_rule.proofs.Names.{About, Addresses, Again, Alive, Answer, AskedBy, ToBoard, Bool, Boot, BootImage, BootProcess, CallNumber, Child, Direction, Enclosed, Ended, Fault, Forward, Frozen, Gets, Holder, Inbox, Incoming, IsStep, IsValid}
 pub use Rattle.dm_rule.proofs.Names.{Known, Label, Leads, Life, Line, Link, List, Load, Manager, MessageKind, MoveNote, MsgId, Name, NamedLink, None, One, OneKernel, Option, Outcome, Owner, Owns, Pair, Part, PendingKind, Pid, Place}
 pub use Rattle.dm_rule.proofs.Names.{PlainLink, PlainMessage, PlainProcess, PlainStatus, PlainWhat, Point, Receiver, Regs, Reply, Routes, Row, Says, Sender, SentLoad, Slot, Some, Sort, Sound, Spelled, Spot, Stage, Step, TellsRight, Told}
 pub use Rattle.dm_rule.proofs.Names.{Transmits, View, Why, [], act_of, acting_place, addresses_by, after, after_head, after_label, after_line, after_step, all_follow, answer_gets, answer_id, answer_to, ap, arith, ascends, at_hand-is}
@@ -62,9 +62,10 @@ pub use Rattle.dm_rule.specs.Addresses.{board_asks}
 pub use Rattle.dm_rule.specs.Migrating.{answers_in, behind_among, holders_numbered, holders_of, slot_holders}
 pub use Rattle.dm_rule.specs.View.{first_told, is_own}
 pub use Rattle.dm_places.specs.Changes.{Changes, StepsChangeLittle, changed, is_named, receiver_in, taken, taken_out}
-pub use Rattle.dm_places.specs.Following.{GroupNeeds, LineNeeds, MirrorsPoint, ServersApart, is_among, sent_all}
+pub use Rattle.dm_places.specs.Following.{GroupNeeds, LineNeeds, MirrorsPoint, ServersApart, is_among, moved_on, once_more, sent_all}
 pub use Rattle.dm_places.specs.Laws.{KeepsPlaces, LinesKeep, PointDetermines, StartMirrors, StepNeeds, StepsFollow}
 pub use Rattle.dm_places.specs.Placed.{AnswerNames, Mirrors, MirrorsKernel, MirrorsMessage, MirrorsPlaces, MirrorsProcess, Placed, enclosed, owner_at, plain_note}
 pub use Rattle.dm_places.specs.PlacedStart.{placed_start, started, started_at}
 pub use Rattle.dm_places.specs.PlacedStep.{Acted, acted, acts, after_call, after_done, after_landing, answers, board_took, completed, creates, ends_move, if_ready, lands, machine_of, manager_took, placed_step, ran, running, serves, takes}
 pub use Rattle.dm_places.specs.PlacedStep.{with_acted, with_child, with_machine, with_message, with_note, with_process, with_sent, without_message, without_note}
+pub use Rattle.dm_rule.specs.Trails.{is_made, is_server}

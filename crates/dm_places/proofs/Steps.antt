@@ -1,6 +1,6 @@
 -- Each step with places, a label after the other.
-use Rattle.dm_places.proofs.Names.{◌≡◌, ◌∙◌, ap, sym, true, ℕ, Some, Label, Line, Manager, OneKernel, View, Addresses, ascends, Point, after_line, moved, bind-is, Placed, Mirrors, placed_step, StepNeeds, StepsFollow, act_of, addresses_by}
-use Rattle.dm_places.proofs.Names.{MirrorsPoint, arith, nat_tests}
+use Rattle.dm_places.proofs.Names.{◌≡◌, ◌∙◌, ap, sym, subst, true, ℕ, Some, Label, Line, Manager, OneKernel, View, Addresses, ascends, Point, after_line, moved, bind-is, Placed, Mirrors, placed_step, StepNeeds, StepsFollow, act_of, addresses_by}
+use Rattle.dm_places.proofs.Names.{MirrorsPoint}
 use Rattle.dm_onekernel.specs.Step as kernel
 use Rattle.dm_places.proofs.Lines.{mirrors_view, moves_label}
 use Rattle.dm_places.proofs.Labels.Acts.{ran_follows, call_follows, send_follows, wait_follows, out_follows, end_follows}
@@ -26,7 +26,7 @@ steps_follow s t v a l (Label.Refuse p id c) h needs is = refuse_follows s t v a
 steps_follow s t v a l (Label.Dropped id) h needs is = dropped_follows s t v a l id is h
 steps_follow s t v a l (Label.Served id) h needs is = served_follows s t v a l id is h
 steps_follow s t v a l (Label.Gone id) h needs is = gone_follows s t v a l id is h
-steps_follow s t v a l (Label.Took id) h needs is = took_follows s t v a l id is (in_order s v a l h needs.1) h
+steps_follow s t v a l (Label.Took id) h needs is = took_follows s t v a l id is (in_order s v a l h needs) h
 steps_follow s t v a l (Label.Created id child) h needs is = created_follows s t v a l id child is needs h
 steps_follow s t v a l (Label.NoSpace id f b) h needs is = no_space_follows s t v a l id f b is h
 steps_follow s t v a l (Label.Asked id) h needs is = asked_follows s t v a l id is needs h
@@ -46,4 +46,5 @@ label_follows pt pt' l e needs h is =
     let (t, step, last) = bind-is (kernel.step pt.kernel e) (λ (s : OneKernel). Some (moved pt (Line.Label e) s)) pt' is in
     let f : moved pt (Line.Label e) t ≡ pt' = cc in
     let (m, placed, mirrors) = steps_follow pt.kernel t pt.view pt.addresses l e h (needs t step) step in
-    grind (arith, nat_tests, mirrors_view, moves_label)
+    let after = addresses_by pt.kernel pt.view pt.addresses (act_of (Line.Label e)) in
+    (m, placed, subst (λ (q : Point). MirrorsPoint q m) f (mirrors_view t pt.view (moved pt (Line.Label e) t).view after m (moves_label pt.view e) mirrors))

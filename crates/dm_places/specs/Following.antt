@@ -1,9 +1,11 @@
 -- What mirrors a point, and what lines of migration make of its messages.
-use Rattle.std.specs.Prelude.{◌≡◌, ◌⊎◌, ⊤, ℕ, ◌||◌, Bool, true, false, if◌then◌else◌, List, [], ◌∷◌, option_map}
+use Rattle.std.specs.Prelude.{◌≡◌, ◌⊎◌, ⊤, ℕ, ◌+◌, ◌||◌, Bool, true, false, if◌then◌else◌, List, [], ◌∷◌, option_map}
 use Rattle.std.specs.declared.option.Option.TheVariants.{None, Some}
 use Rattle.dm_link.specs.declared.Pid.{Pid}
 use Rattle.dm_link.specs.Names.{pid_eq}
 use Rattle.dm_message.specs.declared.MsgId.{MsgId}
+use Rattle.dm_process.specs.declared.process.Process.{Process}
+use Rattle.dm_rule.specs.Trails.{is_made}
 use Rattle.dm_message.specs.Ids.{id_eq, id_of}
 use Rattle.dm_message.specs.Plain as what
 use Rattle.dm_message.specs.Plain.{PlainMessage}
@@ -30,6 +32,16 @@ is_among i (j ∷ js) = id_eq j i || is_among i js
 -- these messages go on to where their receiver is after so many moves
 abbrev pub sent_all : Placed → ℕ → ℕ → List MsgId → Placed
 sent_all l at moves ids = record l { bag = λ i. if is_among i ids then option_map (sent_on at moves) (l.bag i) else l.bag i }
+
+-- behind step 8 a process or a server has moved once more
+abbrev pub once_more : Process → Process
+once_more x = record x { moves = x.moves + 1 }
+
+abbrev pub moved_on : Placed → Pid → Placed
+moved_on l p =
+    if pid_eq p switchboard then record l { board = record l.board { moves = l.board.moves + 1 } }
+    else if pid_eq p manager then record l { manager = record l.manager { moves = l.manager.moves + 1 } }
+    else record l { processes = λ q. if pid_eq p q then option_map once_more (l.processes q) else l.processes q }
 
 -- the servers are no processes
 abbrev pub ServersApart : OneKernel → Type 0
@@ -65,16 +77,15 @@ LineNeeds pt (line.Stale id) = ⊤
 LineNeeds pt (line.Proto id) = ⊤
 LineNeeds pt (line.NoChild p) = ⊤
 LineNeeds pt (line.NoCall p) = ⊤
-LineNeeds pt (line.Pinned p) = ⊤
+LineNeeds pt line.Away = ⊤
 
 abbrev pub LinesNeed : Point → List Line → Type 0
 LinesNeed pt [] = ⊤
 LinesNeed pt (x ∷ xs) = LineNeeds pt x × ((next : Point) → after_line pt x ≡ Some next → LinesNeed next xs)
 
--- where a group begins: the manager's requests stand in the order in which it sent them, what was never made has never moved, and
--- what comes for a server comes to machine 0; a request to move is one of the manager's messages
+-- where a group begins: the manager's requests stand in the order in which it sent them, what was never made has never moved, but for
+-- the servers; a request to move is one of the manager's messages
 pub record GroupNeeds (pt : Point) : Type 0 where
   pub pending : ascends 0 pt.kernel.manager.pending pt.kernel.manager.sent ≡ true
-  pub unmoved : (p : Pid) → pt.kernel.processes p ≡ None → pt.view.moves p ≡ 0
-  pub server : (m : ℕ) (i : MsgId) (is : List MsgId) (x : PlainMessage) → pt.view.inbox m ≡ i ∷ is → pt.kernel.bag i ≡ Some x → (pid_eq x.to switchboard || pid_eq x.to manager) ≡ true → m ≡ 0
+  pub unmoved : (p : Pid) → is_made pt.kernel p ≡ false → pt.view.moves p ≡ 0
   pub asks : (i : MsgId) (x : PlainMessage) (machine : ℕ) → pt.kernel.bag i ≡ Some x → x.what ≡ what.Move machine → i ≡ id_of manager i.n

@@ -28,7 +28,7 @@ use Rattle.dm_message.specs.Sorts.{sort_of}
 use Rattle.dm_rule.specs.Acts.{act_of}
 use Rattle.dm_rule.specs.Addresses.{addresses_by}
 
--- what a label needs beside a mirror: the servers act on machine 0, and the manager's requests have ascending numbers; a
+-- what a label needs beside a mirror: the manager's requests have ascending numbers; a
 -- process that is made now hasn't moved yet; a request to move has the name of one of the manager's messages, and
 -- one that is answered is the one that its process follows, which lives
 abbrev pub StepNeeds : OneKernel → View → Label → Type 0
@@ -43,7 +43,7 @@ StepNeeds s v (label.Refuse p id c) = ⊤
 StepNeeds s v (label.Dropped id) = ⊤
 StepNeeds s v (label.Served id) = ⊤
 StepNeeds s v (label.Gone id) = ⊤
-StepNeeds s v (label.Took id) = (v.acting ≡ 0) × (ascends 0 s.manager.pending s.manager.sent ≡ true)
+StepNeeds s v (label.Took id) = ascends 0 s.manager.pending s.manager.sent ≡ true
 StepNeeds s v (label.Created id child) = v.moves child ≡ 0
 StepNeeds s v (label.NoSpace id slots blocks) = ⊤
 StepNeeds s v (label.Asked id) = id ≡ id_of manager id.n
@@ -92,7 +92,7 @@ KeepsPlaces pt (line.Stale id) = ⊤
 KeepsPlaces pt (line.Proto id) = ⊤
 KeepsPlaces pt (line.NoChild p) = ⊤
 KeepsPlaces pt (line.NoCall p) = ⊤
-KeepsPlaces pt (line.Pinned p) = ⊤
+KeepsPlaces pt line.Away = ⊤
 
 -- such a line leaves the kernel with places as it is
 abbrev pub LinesKeep : Type 0

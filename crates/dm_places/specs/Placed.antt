@@ -19,6 +19,7 @@ use Rattle.dm_process.specs.declared.process.Process.{Process}
 use Rattle.dm_process.specs.declared.process.Status.{Status}
 use Rattle.dm_process.specs.declared.process.Status.TheVariants as status
 use Rattle.dm_migrate.specs.Asking.{manager_request}
+use Rattle.dm_onekernel.specs.Boot.{manager, switchboard}
 use Rattle.dm_onekernel.specs.Kernel.{MoveNote, OneKernel}
 use Rattle.dm_onekernel.specs.Options.{bind}
 use Rattle.dm_onekernel.specs.Plain.{plain_process}
@@ -28,7 +29,7 @@ use Rattle.dm_procman.specs.declared.pending.Pending.{Pending}
 use Rattle.dm_procman.specs.Managing.{Managing, plain_manager}
 use Rattle.dm_procman.specs.Taking.{child_address, pending_request}
 use Rattle.dm_rule.specs.View.{View}
-use Rattle.dm_rule.specs.Addresses.{Addresses, Slot, Owner, Receiver, Sender, Enclosed, Child, Name, Answer, AskedBy}
+use Rattle.dm_rule.specs.Addresses.{Addresses, Slot, Owner, Receiver, Sender, Enclosed, Child, Name, Answer, AskedBy, ToBoard}
 
 pub record Placed : Type 0 where
   -- the processes that are alive; whichever messages wait for them
@@ -85,6 +86,8 @@ pub record MirrorsKernel (s : OneKernel) (l : Placed) : Type 0 where
   pub manager : plain_manager l.manager ≡ s.manager
   pub machines : l.manager.machines ≡ s.machines
   pub images : l.manager.images ≡ length s.images
+  -- where the manager knows the switchboard to be is an address of it
+  pub to_board : l.manager.board.pid ≡ switchboard
 
 -- its places are the addresses
 pub record MirrorsPlaces (v : View) (a : Addresses) (l : Placed) : Type 0 where
@@ -95,6 +98,10 @@ pub record MirrorsPlaces (v : View) (a : Addresses) (l : Placed) : Type 0 where
   pub child : (n : ℕ) (c : Addr) → child_address l.manager.children n ≡ Some c → a (Child n) ≡ place_of c
   pub answer : (n : ℕ) (r : Pending) → pending_request n l.manager.pending ≡ Some r → AnswerNames r.answer (a (Answer n))
   pub asker : (p : Pid) (k : Asker) → l.notes p ≡ Some k → a (AskedBy p) ≡ place_of k.addr
+  pub board : a ToBoard ≡ place_of l.manager.board
+  -- the servers have moved as often as the lines say
+  pub board_moves : l.board.moves ≡ v.moves switchboard
+  pub manager_moves : l.manager.moves ≡ v.moves manager
 
 pub record Mirrors (s : OneKernel) (v : View) (a : Addresses) (l : Placed) : Type 0 where
   pub plain : MirrorsKernel s l

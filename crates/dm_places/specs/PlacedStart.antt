@@ -23,4 +23,4 @@ started_at b (p ∷ ps) q = if pid_eq p.pid q then started b p else started_at b
 
 abbrev pub placed_start : Boot → Placed
 placed_start b =
-    record { processes = started_at b b.processes; bag = λ i. None; notes = λ p. None; noted = λ i. None; board = record { names = []; sent = 0 }; manager = starting b }
+    record { processes = started_at b b.processes; bag = λ i. None; notes = λ p. None; noted = λ i. None; board = record { names = []; sent = 0; moves = 0 }; manager = starting b }

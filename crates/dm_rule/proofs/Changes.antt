@@ -10,6 +10,8 @@ use Rattle.dm_onekernel.specs.Service as service
 use Rattle.dm_onekernel.specs.Step as kernel
 use Rattle.dm_onekernel.specs.Switchboard as board
 use Rattle.dm_rule.proofs.Serving.{is_kill}
+use Rattle.dm_laws.proofs.Steps.{if_ready-is}
+pub use Rattle.dm_laws.proofs.Steps.{runs as running_is}
 
 -- what a process does next
 pub record Next (s : OneKernel) (p : Pid) (next : kernel.Trap) : Type 0 where
@@ -81,14 +83,6 @@ pub record Changes (P : OneKernel → Type 0) (s : OneKernel) (l : Label) : Type
 
 given : (P : OneKernel → Type 0) (u t : OneKernel) → P u → Some u ≡ Some t → P t
 given P u t h e = let k : u ≡ t = cc in subst P k h
-
--- a process that executes
-if_ready_is : (y : PlainProcess) (st : PlainStatus) (x : PlainProcess) → kernel.if_ready y st ≡ Some x → (y ≡ x) × (pending_of st ≡ None)
-if_ready_is y Ready x e = grind (arith, nat_tests)
-if_ready_is y _ x e = cc
-
-pub running_is : (s : OneKernel) (p : Pid) (x : PlainProcess) → kernel.running s p ≡ Some x → Runs s p x
-running_is s p x e = search (arith, bind-is, if_ready_is, at_hand-is)
 
 replies_step : (P : OneKernel → Type 0) (s t : OneKernel) (p : Pid) (n : ℕ) (c : Reply) (next : kernel.Trap) → Changes P s (Label.Call p n c) → Next s p next → kernel.replies s p n c next ≡ Some t → P t
 replies_step P s t p n c (kernel.Calls k (calls.Replies d y)) h w e = subst P (when-is ((n == k) && reply_eq c d) (kernel.goes_on s p y) t e).1 (h.replies p n k c d y refl w)

@@ -1,6 +1,6 @@
 -- What deliveries and ticks say keeps that each message stands once; and so does every group.
 use Rattle.dm_rule.proofs.Names.{◌≡◌, ℕ, zero, suc, ◌+◌, ◌-◌, ◌==◌, Bool, true, false, not, filter, List, [], ◌∷◌, ◌++◌, refl, ap, ◌∙◌, arith, length, ⊤, if◌then◌else◌, slice_get, Option, None, Some, nat_tests, MsgId, bind, OneKernel, Step}
-use Rattle.dm_rule.proofs.Names.{Line, Load, View, Pair, view_after, Point, label_of, kernel_after, moved, after_line, Part, Says, Transmits, Spelled, packet_line, spelled, Spot, Queue, Untaken, ids_at, standing, bind-is, Boot, Child}
+use Rattle.dm_rule.proofs.Names.{Line, Load, View, Pair, view_after, Point, label_of, kernel_after, moved, after_line, Part, Says, Transmits, Spelled, packet_line, spelled, Spot, Queue, Untaken, ids_at, standing, bind-is, Boot}
 use Rattle.dm_rule.proofs.Names.{group_of, IsValid, SentLoad, after_head, pair_window, first_point, Leads, StandsOnceAlways, start-sound, Pid, PlainMessage, migrates, StandsAsBag, StandsOutside, StandsRight, eqb-true, MessageKind}
 use Rattle.dm_rule.proofs.Names.{calls_off}
 use Rattle.dm_rule.proofs.Lines.{Stands-stays, pair_keeps, eq_self, Bag, Stands, taken_by}
@@ -164,8 +164,8 @@ State-group b pt (Step.Migrate p m) w e fits h =
     let start = moved pt (Line.Head (Step.Migrate p m)) pt.kernel in
     -- the directive to migrate
     let migrates_row : (o pt : Point) (p : Pid) (w : Spelled) → State None pt → PairsFit pt.view → spelled pt (migrates o p) ≡ Some w → State None w.point = λ o pt p w h fit.
-    by_migrates (λ (ps : List Part). spelled pt ps ≡ Some w → State None w.point) o p (λ e. line_ends pt (Line.Pinned p) w refl (by_line None pt (Line.Pinned p) refl h h.stands (λ j. refl)) e)
-    (λ e. line_ends pt (Line.NoChild p) w refl (by_line None pt (Line.NoChild p) refl h h.stands (λ j. refl)) e) (λ n off is e. owns_ends pt MessageKind.Migrate p (o.addresses (Child n)).at w (record { state = h; fits = fit }) e) in
+    by_migrates (λ (ps : List Part). spelled pt ps ≡ Some w → State None w.point) o p (λ e. line_ends pt Line.Away w refl (by_line None pt Line.Away refl h h.stands (λ j. refl)) e)
+    (λ e. line_ends pt (Line.NoChild p) w refl (by_line None pt (Line.NoChild p) refl h h.stands (λ j. refl)) e) (λ a here knows e. owns_ends pt MessageKind.Migrate p a.at w (record { state = h; fits = fit }) e) in
     State-at None g.rest.point w.point g.point
     (migrates_row pt start p g.rest (begun pt (Step.Migrate p m) h (λ z. migrate_off pt.view p m z) (λ i. refl)) (record { within = fits.within; home = fits.home }) (ap (spelled start) f ∙ g.said))
 State-group b pt (Step.CallOff p m) w e fits h =

@@ -1,10 +1,9 @@
 -- A kernel's own message is handled: what comes of it, row by row. Whatever holds of the parts of each row holds of what comes of the message.
-use Rattle.dm_rule.proofs.Names.{◌≡◌, ℕ, ◌==◌, ◌||◌, Bool, false, List, [], ◌∷◌, ◌++◌, ◌⊎◌, ◌/◌, true, refl, subst, length, ⊤, if◌then◌else◌, Option, None, Some, Pid, pid_of, pid_eq, MsgId, MessageKind, Line, Stage, Boot, switchboard}
-use Rattle.dm_rule.proofs.Names.{manager, PlainProcess, Told, About, Of, Known, Unknown, Here, Frozen, Incoming, Forward, Point, Part, Says, Again, Owns, Addresses, place_told, to_kernel, forwards_on, gives_piece, sends_on, leaves}
-use Rattle.dm_rule.proofs.Names.{told_step, updates, told_here, told_ended, process_told, told_server, kernel_hears, hears, bind, bind-is, behind_count, MoveNote, Outcome, answers_move, tells_asker, leaves_for, sort_of, arith, calls_off}
-use Rattle.dm_rule.proofs.Names.{is_stale, nat_tests, map, buried, buries, preds_of, tells_end}
+use Rattle.dm_rule.proofs.Names.{◌≡◌, ℕ, ◌==◌, Bool, false, List, [], ◌∷◌, ◌++◌, ◌⊎◌, true, refl, subst, length, ⊤, if◌then◌else◌, Option, None, Some, Pid, pid_of, MsgId, MessageKind, Line, Stage, Boot}
+use Rattle.dm_rule.proofs.Names.{manager, Size, size_of, is_server, Told, About, Of, Known, Unknown, Here, Frozen, Incoming, Forward, Point, Part, Says, Again, Owns, Addresses, place_told, to_kernel, forwards_on, gives_piece, takes_last_chunk, sends_on, leaves}
+use Rattle.dm_rule.proofs.Names.{told_step, updates, told_here, told_ended, process_told, kernel_hears, hears, bind, bind-is, behind_count, MoveNote, Outcome, answers_move, tells_asker, leaves_for, sort_of, arith, calls_off}
+use Rattle.dm_rule.proofs.Names.{is_stale, map, buried, buries, preds_of, tells_end}
 use Rattle.dm_rule.proofs.Requests.{by_test, by_calls_off}
-use Rattle.dm_onekernel.specs.Step as kernel
 use Rattle.dm_rule.specs.Rule as rule
 
 -- a process's messages go on, and it has left
@@ -30,6 +29,8 @@ pub record Tells (P : List Part → Type 0) (o : Point) (m : ℕ) (id : MsgId) (
   pub state : P (gives_piece id MessageKind.State)
   pub next_chunk : P (Says (Line.Proto id) ∷ to_kernel MessageKind.PullState id.from.home ∷ [])
   pub last_chunk : P (Says (Line.Migration Stage.StateTaken p) ∷ to_kernel MessageKind.PullBlock id.from.home ∷ [])
+  -- a server has come with its last chunk
+  pub server_chunk : is_server p ≡ true → P (Says (Line.Migration Stage.StateTaken p) ∷ Says (Line.Migration Stage.MemoryTaken p) ∷ to_kernel MessageKind.AllTaken id.from.home ∷ [])
   pub memory : P (gives_piece id MessageKind.Memory)
   pub next_block : P (Says (Line.Proto id) ∷ to_kernel MessageKind.PullBlock id.from.home ∷ [])
   pub last_block : P (Says (Line.Migration Stage.MemoryTaken p) ∷ to_kernel MessageKind.AllTaken id.from.home ∷ [])
@@ -42,15 +43,13 @@ pub record At (o : Point) (m : ℕ) (t : Told) (k : Known) : Type 0 where
   pub known : o.view.known m t.receiver ≡ k
   pub kernel : (t.receiver.num == 0) ≡ false
 
--- it is here, and no server
-pub record AtHere (o : Point) (m : ℕ) (t : Told) : Type 0 where
-  pub known : o.view.known m t.receiver ≡ Here
-  pub kernel : (t.receiver.num == 0) ≡ false
-  pub server : (pid_eq t.receiver switchboard || pid_eq t.receiver manager) ≡ false
+-- it is here
+abbrev pub AtHere : Point → ℕ → Told → Type 0
+AtHere o m t = At o m t Here
 
 -- and all that a kernel's own message may say, at each receiver
 pub record Heard (P : List Part → Type 0) (o : Point) (m : ℕ) (id : MsgId) (t : Told) : Type 0 where
-  pub told : (p : Pid) (x : PlainProcess) → t.about ≡ Of p → kernel.alive (o.kernel.processes p) ≡ Some x → is_stale o m id t.kind p ≡ false → Tells P o m id t.kind p
+  pub told : (p : Pid) (x : Size) → t.about ≡ Of p → size_of o.kernel p ≡ Some x → is_stale o m id t.kind p ≡ false → Tells P o m id t.kind p
   pub stale : (p : Pid) → t.about ≡ Of p → is_stale o m id t.kind p ≡ true → P (Says (Line.Stale id) ∷ [])
   pub buried : (p : Pid) → t.about ≡ Of p → t.kind ≡ MessageKind.Bury → P (buried o m id p)
   pub updated : t.kind ≡ MessageKind.Update → P (updates o id t)
@@ -74,16 +73,21 @@ by_leaves : (P : List Part → Type 0) (o : Point) (m : ℕ) (id : MsgId) (p : P
 by_leaves P o m id p ids (Frozen to) ps lists h is e = given P (left_parts id p ids to) ps (h to (record { kind = refl; known = is; lists = lists })) e
 by_leaves P o m id p ids _ ps lists h is e = cc
 
-by_told : (P : List Part → Type 0) (o : Point) (m : ℕ) (id : MsgId) (p : Pid) (room : Bool × ℕ × ℕ) (x : PlainProcess) (k : MessageKind) (ps : List Part) → Tells P o m id k p → told_step o m id p room x (sort_of k) ≡ Some ps → P ps
-by_told P o m id p room x k ps h1 h2 = search (arith, given, by_test, by_asker, by_leaves)
+-- the last chunk, of a server or of a process
+by_last : (P : List Part → Type 0) (o : Point) (m : ℕ) (id : MsgId) (k : MessageKind) (p : Pid) → Tells P o m id k p → P (takes_last_chunk id p)
+by_last P o m id k p h = (elim (is_server p) as (λ c. is_server p ≡ c → P (if c then Says (Line.Migration Stage.StateTaken p) ∷ Says (Line.Migration Stage.MemoryTaken p) ∷ to_kernel MessageKind.AllTaken id.from.home ∷ [] else Says (Line.Migration Stage.StateTaken p) ∷ to_kernel MessageKind.PullBlock id.from.home ∷ []))
+    [ true ↦ λ e. h.server_chunk e | false ↦ λ e. h.last_chunk ]) refl
+
+by_told : (P : List Part → Type 0) (o : Point) (m : ℕ) (id : MsgId) (p : Pid) (room : Bool × ℕ × ℕ) (x : Size) (k : MessageKind) (ps : List Part) → Tells P o m id k p → told_step o m id p room x (sort_of k) ≡ Some ps → P ps
+by_told P o m id p room x k ps h1 h2 = search (arith, given, by_test, by_asker, by_leaves, by_last)
 
 by_due : (P : List Part → Type 0) (b : Boot) (o : Point) (m : ℕ) (id : MsgId) (k : MessageKind) (p : Pid) (stale : Bool) (ps : List Part) → (stale ≡ true → P (Says (Line.Stale id) ∷ []))
-    → ((x : PlainProcess) → kernel.alive (o.kernel.processes p) ≡ Some x → stale ≡ false → Tells P o m id k p)
-    → (if stale then Some (Says (Line.Stale id) ∷ []) else bind (kernel.alive (o.kernel.processes p)) (λ x. told_step o m id p (rule.fits (rule.free_room b o m) (length x.memory / 256)) x (sort_of k))) ≡ Some ps → P ps
+    → ((x : Size) → size_of o.kernel p ≡ Some x → stale ≡ false → Tells P o m id k p)
+    → (if stale then Some (Says (Line.Stale id) ∷ []) else bind (size_of o.kernel p) (λ x. told_step o m id p (rule.fits (rule.free_room b o m) x.blocks) x (sort_of k))) ≡ Some ps → P ps
 by_due P b o m id k p true ps late due e = given P (Says (Line.Stale id) ∷ []) ps (late refl) e
 by_due P b o m id k p false ps late due e =
-    let (x, alive, steps) = bind-is (kernel.alive (o.kernel.processes p)) (λ (x : PlainProcess). told_step o m id p (rule.fits (rule.free_room b o m) (length x.memory / 256)) x (sort_of k)) ps e in
-    by_told P o m id p (rule.fits (rule.free_room b o m) (length x.memory / 256)) x k ps (due x alive refl) steps
+    let (x, alive, steps) = bind-is (size_of o.kernel p) (λ (x : Size). told_step o m id p (rule.fits (rule.free_room b o m) x.blocks) x (sort_of k)) ps e in
+    by_told P o m id p (rule.fits (rule.free_room b o m) x.blocks) x k ps (due x alive refl) steps
 
 -- of these only a burial tells of an end
 pub bury_is : (k : MessageKind) → tells_end (sort_of k) ≡ true → k ≡ MessageKind.Bury
@@ -91,22 +95,18 @@ bury_is MessageKind.Bury e = refl
 bury_is _ e = cc
 
 by_over : (P : List Part → Type 0) (b : Boot) (o : Point) (m : ℕ) (id : MsgId) (k : MessageKind) (p : Pid) (over : Bool) (ps : List Part) → (over ≡ true → P (buried o m id p)) → (is_stale o m id k p ≡ true → P (Says (Line.Stale id) ∷ []))
-    → ((x : PlainProcess) → kernel.alive (o.kernel.processes p) ≡ Some x → is_stale o m id k p ≡ false → Tells P o m id k p)
+    → ((x : Size) → size_of o.kernel p ≡ Some x → is_stale o m id k p ≡ false → Tells P o m id k p)
     → (if over then Some (buried o m id p)
     else if is_stale o m id k p then Some (Says (Line.Stale id) ∷ [])
-    else bind (kernel.alive (o.kernel.processes p)) (λ x. told_step o m id p (rule.fits (rule.free_room b o m) (length x.memory / 256)) x (sort_of k))) ≡ Some ps
+    else bind (size_of o.kernel p) (λ x. told_step o m id p (rule.fits (rule.free_room b o m) x.blocks) x (sort_of k))) ≡ Some ps
     → P ps
 by_over P b o m id k p true ps ends late due e = given P (buried o m id p) ps (ends refl) e
 by_over P b o m id k p false ps ends late due e = by_due P b o m id k p (is_stale o m id k p) ps late due e
 
 pub by_kernel : (P : List Part → Type 0) (b : Boot) (o : Point) (m : ℕ) (id : MsgId) (k : MessageKind) (a : About) (ps : List Part) → ((p : Pid) → a ≡ Of p → k ≡ MessageKind.Bury → P (buried o m id p)) → ((p : Pid) → a ≡ Of p → is_stale o m id k p ≡ true → P (Says (Line.Stale id) ∷ []))
-    → ((p : Pid) (x : PlainProcess) → a ≡ Of p → kernel.alive (o.kernel.processes p) ≡ Some x → is_stale o m id k p ≡ false → Tells P o m id k p) → kernel_hears b o m id k a ≡ Some ps → P ps
+    → ((p : Pid) (x : Size) → a ≡ Of p → size_of o.kernel p ≡ Some x → is_stale o m id k p ≡ false → Tells P o m id k p) → kernel_hears b o m id k a ≡ Some ps → P ps
 by_kernel P b o m id k (Of p) ps ends late due e = by_over P b o m id k p (tells_end (sort_of k)) ps (λ over. ends p refl (bury_is k over)) (late p refl) (λ x alive is. due p x refl alive is) e
 by_kernel P b o m id k _ ps ends late due e = cc
-
-by_server : (P : List Part → Type 0) (o : Point) (id : MsgId) (t : Told) (k : MessageKind) (ps : List Part) → t.kind ≡ k → (t.kind ≡ MessageKind.Update → P (updates o id t)) → told_server o id t (sort_of k) ≡ Some ps → P ps
-by_server P o id t MessageKind.Update ps is h e = given P (updates o id t) ps (h is) e
-by_server P o id t _ ps is h e = cc
 
 by_here : (P : List Part → Type 0) (o : Point) (m : ℕ) (id : MsgId) (t : Told) (k : MessageKind) (ps : List Part) → t.kind ≡ k → Heard P o m id t → AtHere o m t → told_here o m id t (sort_of k) ≡ Some ps → P ps
 by_here P o m id t k ps h1 h2 h3 h4 = search (arith, given, by_test)
@@ -114,17 +114,8 @@ by_here P o m id t k ps h1 h2 h3 h4 = search (arith, given, by_test)
 by_ended : (P : List Part → Type 0) (o : Point) (m : ℕ) (id : MsgId) (t : Told) (k : MessageKind) (ps : List Part) → t.kind ≡ k → Heard P o m id t → At o m t Unknown → told_ended id (sort_of k) ≡ Some ps → P ps
 by_ended P o m id t k ps h1 h2 h3 h4 = search (arith, given)
 
-pub neither : (c d : Bool) → c ≡ false → d ≡ false → (c || d) ≡ false
-neither c d h k = grind (arith, nat_tests)
-
-by_own : (P : List Part → Type 0) (o : Point) (m : ℕ) (id : MsgId) (t : Told) (d g : Bool) (ps : List Part) → pid_eq t.receiver switchboard ≡ d → pid_eq t.receiver manager ≡ g → Heard P o m id t → At o m t Here
-    → (if d then told_server o id t (sort_of t.kind) else if g then told_server o id t (sort_of t.kind) else told_here o m id t (sort_of t.kind)) ≡ Some ps → P ps
-by_own P o m id t true g ps board any h at_ e = by_server P o id t t.kind ps refl h.updated e
-by_own P o m id t false true ps off manager_ h at_ e = by_server P o id t t.kind ps refl h.updated e
-by_own P o m id t false false ps off others h at_ e = by_here P o m id t t.kind ps refl h (record { known = at_.known; kernel = at_.kernel; server = neither (pid_eq t.receiver switchboard) (pid_eq t.receiver manager) off others }) e
-
 by_process : (P : List Part → Type 0) (o : Point) (m : ℕ) (id : MsgId) (t : Told) (k : Known) (ps : List Part) → Heard P o m id t → At o m t k → process_told o m id t k ≡ Some ps → P ps
-by_process P o m id t Here ps h at_ e = by_own P o m id t (pid_eq t.receiver switchboard) (pid_eq t.receiver manager) ps refl refl h at_ e
+by_process P o m id t Here ps h at_ e = by_here P o m id t t.kind ps refl h at_ e
 by_process P o m id t (Frozen to) ps h at_ e = given P (Says (Line.Held id) ∷ []) ps (h.leaving to at_) e
 by_process P o m id t (Incoming from) ps h at_ e = given P (Says (Line.Held id) ∷ []) ps (h.coming from at_) e
 by_process P o m id t (Forward to moves) ps h at_ e = given P (forwards_on o.addresses id t.kind manager to) ps (h.forwarded to moves at_) e
@@ -195,6 +186,7 @@ heard_kept P c o m id t =
         state = two (Line.Proto id) MessageKind.State home tt;
         next_chunk = two (Line.Proto id) MessageKind.PullState home tt;
         last_chunk = two (Line.Migration Stage.StateTaken p) MessageKind.PullBlock home tt;
+        server_chunk = λ server. c.says (Line.Migration Stage.StateTaken p) (Says (Line.Migration Stage.MemoryTaken p) ∷ to_kernel MessageKind.AllTaken home ∷ []) tt (two (Line.Migration Stage.MemoryTaken p) MessageKind.AllTaken home tt);
         memory = two (Line.Proto id) MessageKind.Memory home tt;
         next_block = two (Line.Proto id) MessageKind.PullBlock home tt;
         last_block = two (Line.Migration Stage.MemoryTaken p) MessageKind.AllTaken home tt;

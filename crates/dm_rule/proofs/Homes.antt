@@ -15,7 +15,7 @@ pub mod Parts
 pub mod Groups
 pub mod Turns
 use Rattle.dm_rule.proofs.Names.{◌≡◌, ℕ, true, refl, ap, sym, subst, slice_get, Option, None, Some, Pid, Place, PlainLink, link_at, MsgId, PlainMessage, PlainProcess, NamedLink, Pending, MoveNote, OneKernel, links_in, to_of, sender_of}
-use Rattle.dm_rule.proofs.Names.{enclosed_of, names, ascends, Addresses, Holder, Slot, Owner, Receiver, Sender, Enclosed, Child, Name, Answer, AskedBy, unmoved, link_target, owner_in, asker_in, option_and_then, option_map, arith}
+use Rattle.dm_rule.proofs.Names.{enclosed_of, names, ascends, Addresses, Holder, Slot, Owner, Receiver, Sender, Enclosed, Child, Name, Answer, AskedBy, ToBoard, unmoved, switchboard, link_target, owner_in, asker_in, option_and_then, option_map, arith}
 use Rattle.dm_onekernel.specs.Manager as manage
 use Rattle.dm_onekernel.specs.Step as kernel
 
@@ -52,6 +52,7 @@ pub record AtHome (P : Pid → Place → Type 0) (s : OneKernel) (a : Addresses)
   pub named : (n : ℕ) (k : NamedLink) → slice_get s.switchboard.names n ≡ Some k → P k.link.to (a (Name n))
   pub answers : (n : ℕ) (r : Pending) (l : PlainLink) → manage.pending_numbered n s.manager.pending ≡ Some r → r.answer ≡ Some l → P l.to (a (Answer n))
   pub askers : (p : Pid) (n : MoveNote) → s.notes p ≡ Some n → P n.asker (a (AskedBy p))
+  pub board : P switchboard (a ToBoard)
   -- whoever never moved is at home
   pub rooted : (q : Pid) → P q (unmoved q.home)
   pub pending : ascends 0 s.manager.pending s.manager.sent ≡ true
@@ -108,6 +109,7 @@ homes_are P s a h (Child n) q e = h.children n q e
 homes_are P s a h (Name n) q e = name_home P a n q (slice_get s.switchboard.names n) (h.named n) e
 homes_are P s a h (Answer n) q e = answer_home P a n q (manage.pending_numbered n s.manager.pending) (h.answers n) e
 homes_are P s a h (AskedBy p) q e = asker_home P a p q (s.notes p) (h.askers p) e
+homes_are P s a h ToBoard q e = at_home_of P switchboard q (a ToBoard) e h.board
 
 pub at_home : (P : Pid → Place → Type 0) (s : OneKernel) (a : Addresses) → ((q : Pid) → P q (unmoved q.home)) → HomesAre P s a → ascends 0 s.manager.pending s.manager.sent ≡ true → AtHome P s a
 at_home P s a rooted h numbers = search arith

@@ -8,6 +8,7 @@ pub mod RestWorked
 pub mod OrderWorked
 pub mod CallOffWorked
 pub mod BuryWorked
+pub mod ServerWorked
 pub mod Standing
 pub mod Once
 pub mod Lines
@@ -32,7 +33,9 @@ pub mod Phases
 pub mod Telling
 pub mod Rings
 pub mod Lives
+pub mod Sizes
 pub mod Ordered
 pub mod Rooted
 pub mod Apart
 pub mod Trails
+pub mod KnownPlaces

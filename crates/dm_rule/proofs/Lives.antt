@@ -10,10 +10,6 @@ pub record Lives (s : OneKernel) (v : View) : Type 0 where
 abbrev pub Lived : OneKernel → Pid → Type 0
 Lived s p = s.processes p ≡ None → 3 ≤ p.num → ⊥
 
-pub lived_alive : (s : OneKernel) (p : Pid) (l : Option Life) (x : PlainProcess) → kernel.alive l ≡ Some x → l ≡ s.processes p → Lived s p
-lived_alive s p None x e is none le = cc
-lived_alive s p (Some l) x e is none le = absurd (let f : Some l ≡ None = is ∙ none in cc)
-
 pub lived_here : (s : OneKernel) (v : View) (p : Pid) (m : ℕ) → Lives s v → v.known m p ≡ Here → Lived s p
 lived_here s v p m h here none le = absurd (let f : Unknown ≡ Here = sym (h.none p none le m) ∙ here in cc)
 

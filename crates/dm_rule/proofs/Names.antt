@@ -53,7 +53,7 @@ pub use Rattle.dm_line.specs.declared.line.Line.{Line}
 pub use Rattle.dm_line.specs.declared.line.Load.{Load}
 pub use Rattle.dm_line.specs.declared.line.Stage.{Stage}
 pub use Rattle.dm_rule.specs.Acts.{act_of}
-pub use Rattle.dm_rule.specs.Addresses.{Addresses, Answer, AskedBy, Child, Enclosed, Gets, Holder, Name, Owner, Receiver, Sender, Slot, acting_place, addresses_by, all_follow, answer_gets, belongs_to, board_finds, board_gets, board_keeps}
+pub use Rattle.dm_rule.specs.Addresses.{Addresses, Answer, AskedBy, Child, Enclosed, Gets, Holder, Name, Owner, Receiver, Sender, Slot, ToBoard, acting_place, addresses_by, all_follow, answer_gets, belongs_to, board_finds, board_gets, board_keeps, known_place}
 pub use Rattle.dm_rule.specs.Addresses.{call_gets, child_links, child_number, enclosed_from, encloses, fills, fills_by, first_addresses, first_gives, forwards, gets, given, gives, holder_eq, is_behind, is_told_back, landing_gets, leads_to}
 pub use Rattle.dm_rule.specs.Addresses.{link_target, links_at, manager_answers, manager_gets, manager_sends, own_given, owner_in, place_known, place_named, place_told, receives_links, receiving_gets, sending_gets, serving_gets, slot_after}
 pub use Rattle.dm_rule.specs.Addresses.{telling_gets, told_back_gets, unmoved, updated, updated_to}
@@ -63,12 +63,12 @@ pub use Rattle.dm_rule.specs.Good.{next_step, seen_at}
 pub use Rattle.dm_rule.specs.Homes.{Homes, are_for_home, are_home, ascends, asker_in, enclosed_of, is_for_home, links_in, names, sender_of, to_of}
 pub use Rattle.dm_rule.specs.Laws.{AreStill, AskNone, IsStep, IsStill, IsUnasked, KernelsInOrderAlways, LeadHomeAlways, Leads, LeadsStill, MovingStaysAlways, PairsStandAlways, PhasesAlways, QuietIsTested, RestIsTested, StandsOnceAlways}
 pub use Rattle.dm_rule.specs.Laws.{TellsRightAlways}
-pub use Rattle.dm_rule.specs.Migrating.{accepts, answers_move, asked_to_move, behind_count, calls_off, chunks_of, forwards_on, gives_piece, leaves, leaves_for, migrates, migrates_child, pieces_of, process_told, sends_on, takes_block}
-pub use Rattle.dm_rule.specs.Migrating.{takes_chunk, tells_asker, to_kernel, told_ended, told_here, told_server, told_step, updates}
+pub use Rattle.dm_rule.specs.Migrating.{accepts, answers_move, asked_to_move, behind_count, calls_off, chunks_of, forwards_on, gives_piece, leaves, leaves_for, migrates, pieces_of, process_told, sends_on, takes_block, migrates_to, takes_last_chunk, Size, size_of}
+pub use Rattle.dm_rule.specs.Migrating.{takes_chunk, tells_asker, to_kernel, told_ended, told_here, told_step, updates}
 pub use Rattle.dm_rule.specs.Order.{KernelsInOrder, is_between_from, ordered}
 pub use Rattle.dm_rule.specs.Pairs.{HomeStands, PairStands}
 pub use Rattle.dm_rule.specs.Parts.{Again, Owns, Part, Routes, Says, Spelled, Transmits, behind, goes_out, lines_of, packet_line, pair_window, puts, spelled}
-pub use Rattle.dm_rule.specs.Phases.{Alone, Asks, Comes, ComesIn, HasCome, HasToken, IsBefore, IsIn, IsLeft, IsToken, IsWay, Moves, Nowhere, Over, Phase, Rests, is_apart, is_away, is_between, is_calloff, is_due, is_early, is_here}
+pub use Rattle.dm_rule.specs.Phases.{Alone, Asks, Comes, ComesIn, HasCome, HasToken, IsBefore, IsIn, IsLeft, IsToken, IsWay, Moves, Nowhere, Over, Phase, Rests, is_apart, is_away, is_between, is_calloff, is_due, is_early, is_here, has_it}
 pub use Rattle.dm_rule.specs.Phases.{is_restart, is_unknown, kind_comes, kind_leaves, knows, receiver_in, sender_in, tells_come, token_in, told_between}
 pub use Rattle.dm_rule.specs.Point.{Point, after, after_line, first_point, kernel_after, label_of, move_target, moved, seen, topic_by}
 pub use Rattle.dm_rule.specs.Quiet.{IsQuiet, has_mail, is_quiet, pair_is_quiet}
@@ -79,7 +79,7 @@ pub use Rattle.dm_rule.specs.Rule.{serves_status, stops, takes_on, taking_parts,
 pub use Rattle.dm_rule.specs.Spots.{Held, Inbox, Queue, Spot, StandsAsBag, StandsNowhere, StandsOnce, StandsOutside, StandsRight, Untaken, ids_at, standing, times, untaken}
 pub use Rattle.dm_rule.specs.Tells.{TellsRight}
 pub use Rattle.dm_rule.specs.Trails.{AddressesOn, IsOn, LeadsAlong, OwnOn, StoodOnTrail, Trail, Trails, TrailsAlways, Trodden, along, destination, first_trails, first_trodden, is_alive, is_made, is_server, leads, leads_on, trails_after}
-pub use Rattle.dm_rule.specs.View.{About, Forward, Frozen, Here, Incoming, Known, NothingElse, Of, Pair, SentLoad, Target, Told, Unknown, View, actor, after_head, after_label, after_packet, after_proto, after_put, after_stage, after_taken}
+pub use Rattle.dm_rule.specs.View.{About, Forward, Frozen, Here, Incoming, Known, NothingElse, Of, Pair, SentLoad, Target, Told, Unknown, View, actor, after_head, after_label, after_packet, after_proto, after_put, after_stage, after_taken, has_seat, ring_with, seated, handled_for}
 pub use Rattle.dm_rule.specs.View.{asks_on, at_least, begins, buried_for, dropped_for, ended, ends_by, first_view, follows_by, forgotten, forward_about, forwarded_for, front_of, frozen_for, goes_back, gone_after, gone_to, handled}
 pub use Rattle.dm_rule.specs.View.{handled_first, held_for, is_kernels, knowing, known_at, marked, marked_at, nobody, oldest, own_id, queued_for, receiver_of, released, ring_at, routed_on, served_told, sets_off, taken_id, target_of}
 pub use Rattle.dm_rule.specs.View.{view_after, with_pair, with_ring}

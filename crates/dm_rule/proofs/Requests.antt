@@ -1,22 +1,25 @@
--- A directive to move a process: it is refused in a line, or a request goes to the process; and one that calls a migration off. What holds of these three, or two, holds of whatever comes of it.
-use Rattle.dm_rule.proofs.Names.{◌≡◌, ℕ, ◌||◌, Bool, true, false, List, [], ◌∷◌, ◌++◌, length, refl, if◌then◌else◌, Option, None, Some, Pid, pid_eq, MsgId, MessageKind, Line, Child, Addresses, child_number, Known, Incoming, Point, Part}
-use Rattle.dm_rule.proofs.Names.{Says, Owns, migrates_child, migrates, sends_on, to_kernel, calls_off, switchboard, manager, arith}
+-- A directive to move a process or a server: a line says why none is told to, or a request goes to it; and one that calls a migration off. What holds of these three, or two, holds of whatever comes of it.
+use Rattle.dm_rule.proofs.Names.{◌≡◌, ℕ, Bool, true, false, List, [], ◌∷◌, ◌++◌, length, refl, if◌then◌else◌, Option, None, Some, Pid, MsgId, MessageKind, Line, Known, Incoming, Point, Part}
+use Rattle.dm_rule.proofs.Names.{Says, Owns, has_seat, known_place, migrates_to, migrates, sends_on, to_kernel, calls_off, Place, arith}
 
 -- a test chooses between two values, and both do
 pub by_test : {A : Type 0} (P : A → Type 0) (c : Bool) (x y : A) → P x → P y → P (if c then x else y)
 by_test P true x y h k = h
 by_test P false x y h k = k
 
-by_child : (P : List Part → Type 0) (a : Addresses) (p : Pid) (o : Option ℕ) → P (Says (Line.NoChild p) ∷ []) → ((n : ℕ) → o ≡ Some n → P (Owns MessageKind.Migrate p (a (Child n)).at ∷ [])) → P (migrates_child a p o)
-by_child P a p None none asks = none
-by_child P a p (Some n) none asks = asks n refl
+by_place : (P : List Part → Type 0) (p : Pid) (o : Option Place) → P (Says (Line.NoChild p) ∷ []) → ((a : Place) → o ≡ Some a → P (Owns MessageKind.Migrate p a.at ∷ [])) → P (migrates_to p o)
+by_place P p None none asks = none
+by_place P p (Some a) none asks = asks a refl
 
--- the process is no server where it is asked to move, and this child
-pub by_migrates : (P : List Part → Type 0) (pt : Point) (p : Pid) → P (Says (Line.Pinned p) ∷ []) → P (Says (Line.NoChild p) ∷ []) → ((n : ℕ) → (pid_eq p switchboard || pid_eq p manager) ≡ false → child_number pt.kernel p ≡ Some n → P (Owns MessageKind.Migrate p (pt.addresses (Child n)).at ∷ [])) → P (migrates pt p)
-by_migrates P pt p pinned none asks =
-    let by_tests : (P : List Part → Type 0) (p : Pid) (c d : Bool) (ps : List Part) → P (Says (Line.Pinned p) ∷ []) → ((c || d) ≡ false → P ps) → P (if c then Says (Line.Pinned p) ∷ [] else if d then Says (Line.Pinned p) ∷ [] else ps) =
-    λ P p c d ps h1 h2. search arith in
-    by_tests P p (pid_eq p switchboard) (pid_eq p manager) (migrates_child pt.addresses p (child_number pt.kernel p)) pinned (λ off. by_child P pt.addresses p (child_number pt.kernel p) none (λ n. asks n off))
+by_seat : (P : List Part → Type 0) (c : Bool) (ps : List Part) → P (Says Line.Away ∷ []) → (c ≡ true → P ps) → P (if c then ps else Says Line.Away ∷ [])
+by_seat P true ps away asks = asks refl
+by_seat P false ps away asks = away
+
+-- the manager is here where it is asked, and knows a place of the process or server (KnownPlaces)
+pub by_migrates : (P : List Part → Type 0) (pt : Point) (p : Pid) → P (Says Line.Away ∷ []) → P (Says (Line.NoChild p) ∷ [])
+    → ((a : Place) → has_seat pt.view ≡ true → known_place pt.kernel pt.view pt.view.seat pt.addresses p ≡ Some a → P (Owns MessageKind.Migrate p a.at ∷ [])) → P (migrates pt p)
+by_migrates P pt p away none asks =
+    by_seat P (has_seat pt.view) (migrates_to p (known_place pt.kernel pt.view pt.view.seat pt.addresses p)) away (λ here. by_place P p (known_place pt.kernel pt.view pt.view.seat pt.addresses p) none (λ a knows. asks a here knows))
 
 -- what was held for a process goes back to the machine that it was to leave, and that machine's kernel is told
 abbrev pub called_parts : Pid → List MsgId → ℕ → List Part

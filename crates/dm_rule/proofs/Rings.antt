@@ -1,6 +1,7 @@
 -- What the ring of a machine lists is here.
 use Rattle.dm_rule.proofs.Names.{◌≡◌, ℕ, ◌==◌, ◌&&◌, Bool, true, false, not, List, [], ◌∷◌, ◌++◌, refl, ap, ◌∙◌, sym, subst, ⊤, if◌then◌else◌, false≢true, Pid, pid_eq, at_machine, at_record, without, moved_back, View, Known, Here}
-use Rattle.dm_rule.proofs.Names.{pid_eq-is, pid_eq-same, arith, eqb-true}
+use Rattle.dm_rule.proofs.Names.{pid_eq-is, pid_eq-same, arith, eqb-true, is_server, ring_with}
+use Rattle.dm_rule.proofs.Requests.{by_test}
 
 abbrev pub AllHere : (Pid → Known) → List Pid → Type 0
 AllHere f [] = ⊤
@@ -41,6 +42,10 @@ all_moved f p ps here h = all_append f (without p ps) (p ∷ []) (all_without f 
 
 pub learnt_last : (f : Pid → Known) (p : Pid) (ps : List Pid) → AllHere f ps → AllHere (learnt f p Here) (ps ++ p ∷ [])
 learnt_last f p ps h = all_append (learnt f p Here) ps (p ∷ []) (all_learnt f p Here ps (λ e. refl) h) (ap (λ (c : Bool). if c then Here else f p) (pid_eq-same p), tt)
+
+-- it comes to the ring's back, and a server to no ring
+pub learnt_with : (f : Pid → Known) (p : Pid) (ps : List Pid) → AllHere f ps → AllHere (learnt f p Here) (ring_with ps p)
+learnt_with f p ps h = by_test (AllHere (learnt f p Here)) (is_server p) ps (ps ++ p ∷ []) (all_learnt f p Here ps (λ e. refl) h) (learnt_last f p ps h)
 
 -- one machine's ring
 ring_if : (f : Pid → Known) (c : Bool) (x y : List Pid) → (c ≡ true → AllHere f x) → (c ≡ false → AllHere f y) → AllHere f (if c then x else y)

@@ -2,14 +2,14 @@
 use Rattle.dm_rule.proofs.Names.{◌≡◌, ℕ, ◌+◌, ◌==◌, ◌||◌, Bool, true, false, List, [], ◌∷◌, refl, length, if◌then◌else◌, Option, None, Some, Pid, pid_of, pid_eq, MsgId, MessageKind, Label, Reply, Why, plain_kind, PlainMessage, PlainWhat}
 use Rattle.dm_rule.proofs.Names.{instruction, Boot, first_number, switchboard, manager, PlainProcess, PlainStatus, Ready, Waiting, Moving, answer_id, with_machine, Line, Known, Unknown, Here, Frozen, Incoming, Forward, Addresses, Sender}
 use Rattle.dm_rule.proofs.Names.{Point, Part, Says, Routes, Again, Owns, forwards_on, says, drop_parts, called, stops, executes, ran, first_awaited, serves_status, goes_round, kernel_handles, routes, board_took, manager_parts, here_handles}
-use Rattle.dm_rule.proofs.Names.{ended_handles, process_handles, bind-is, Outcome, answers_move, leaves_for, arith, machine_of, or_left, or_right, bind, ◌++◌, map, to_kernel, buries, ends_with, preds_of}
+use Rattle.dm_rule.proofs.Names.{ended_handles, process_handles, bind-is, Outcome, answers_move, leaves_for, arith, nat_tests, machine_of, or_left, or_right, bind, ◌++◌, map, to_kernel, buries, ends_with, preds_of}
 use Rattle.dm_onekernel.specs.Calls as calls
 use Rattle.dm_onekernel.specs.Pieces as pieces
 use Rattle.dm_onekernel.specs.Switchboard as board
 use Rattle.dm_onekernel.specs.Manager as manage
 use Rattle.dm_onekernel.specs.Step as kernel
 use Rattle.dm_rule.specs.Rule as rule
-use Rattle.dm_rule.proofs.Hearing.{given, neither}
+use Rattle.dm_rule.proofs.Hearing.{given}
 
 -- a process stops: its turn is over, or a call follows, or its end, with this behind it
 pub record Stops (Q : List Part → Type 0) (p : Pid) (after : List Part) : Type 0 where
@@ -95,6 +95,9 @@ by_here P o m id msg x w ps h1 h2 h3 h4 = search (arith, given, by_lands)
 
 by_ended : (P : List Part → Type 0) (o : Point) (m : ℕ) (id : MsgId) (msg : PlainMessage) (w : PlainWhat) (ps : List Part) → To o m msg Unknown → Handles P o m id msg → ended_handles id w ≡ Some ps → P ps
 by_ended P o m id msg w ps h1 h2 h3 = search (arith, given)
+
+pub neither : (c d : Bool) → c ≡ false → d ≡ false → (c || d) ≡ false
+neither c d h k = grind (arith, nat_tests)
 
 by_own : (P : List Part → Type 0) (o : Point) (m : ℕ) (id : MsgId) (msg : PlainMessage) (d g : Bool) (ps : List Part) → pid_eq msg.to switchboard ≡ d → pid_eq msg.to manager ≡ g → To o m msg Here → Handles P o m id msg
     → (if d then board_took id (board.board_takes o.kernel.switchboard msg msg.what) else if g then manager_parts id (manage.manager_takes o.kernel.manager o.kernel.machines (length o.kernel.images) msg msg.what)

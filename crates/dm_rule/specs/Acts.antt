@@ -54,5 +54,5 @@ act_of (line.Stale id) = Tells
 act_of (line.Buried id n) = Tells
 act_of (line.Proto id) = Tells
 act_of (line.NoChild p) = Tells
-act_of (line.Pinned p) = Tells
+act_of line.Away = Tells
 act_of (line.NoCall p) = Tells

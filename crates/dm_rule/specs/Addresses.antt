@@ -1,6 +1,6 @@
 -- Addresses: the place that each link and each message names, folded from the lines beside the kernel without machines.
 use Rattle.std.specs.Prelude.{ℕ, ◌+◌, Bool, false, ◌&&◌, nat_lt, if◌then◌else◌, is_none, option_map, option_and_then, List, [], ◌∷◌, ◌++◌, map, slice_get}
-use Rattle.std.specs.Option.{option_map_or}
+use Rattle.std.specs.Option.{option_map_or, unwrap_or}
 use Rattle.std.specs.List.{position_from}
 use Rattle.std.specs.declared.option.Option.{Option}
 use Rattle.std.specs.declared.option.Option.TheVariants.{None, Some}
@@ -24,7 +24,7 @@ use Rattle.dm_rule.specs.Acts.{Act, act_of}
 use Rattle.dm_rule.specs.Acts as act
 use Rattle.dm_rule.specs.View.{View, Told, About, Known, Frozen, Incoming, Forward}
 use Rattle.dm_rule.specs.View as view
-pub use Rattle.dm_rule.specs.Holders.{Holder, Slot, Owner, Receiver, Sender, Enclosed, Child, Name, Answer, AskedBy, Addresses, holder_eq, Gets, gets, given, acting_place, unmoved}
+pub use Rattle.dm_rule.specs.Holders.{Holder, Slot, Owner, Receiver, Sender, Enclosed, Child, Name, Answer, AskedBy, ToBoard, Addresses, holder_eq, Gets, gets, given, acting_place, unmoved}
 pub use Rattle.dm_rule.specs.Given.{encloses, enclosed_from, sending_gets, sends_next, send_gets, fills, fills_by, call_gets, slot_after, receives_links, receiving_gets, reception_gets, answer_gets, landing_gets, serving_gets, service_gets, child_links, child_gets, creation_gets, place_named, board_finds, board_keeps, board_asks, board_gets, manager_controls, telling_gets, manager_sends, manager_answers, manager_gets, taking_gets, gives}
 
 -- a message that goes on, that step 6 of a migration sends on, or that goes back where one is called off, follows its receiver
@@ -58,10 +58,17 @@ child_number s p = position_from (pid_eq p) 1 s.manager.children
 abbrev pub goes_between : View → MsgId → Pid → List Gets
 goes_between v id q = gets (Receiver id) (unmoved q.home) ∷ gets (Sender id) (unmoved v.acting) ∷ []
 
--- a kernel's own message, when it is first put: a request to move a process goes to where the manager knows it by its link to it, in
+-- where the manager, on machine m, knows what it is told to move: the switchboard, itself, or a child
+abbrev pub known_place : OneKernel → View → ℕ → Addresses → Pid → Option Place
+known_place s v m a q =
+    if pid_eq q switchboard then Some (a ToBoard)
+    else if pid_eq q manager then Some (record { at = m; moves = v.moves q })
+    else option_map (λ n. a (Child n)) (child_number s q)
+
+-- a kernel's own message, when it is first put: a request to move goes to where the manager knows its receiver to be, in
 -- the manager's name; an update has its places from the forward; the others go from kernel to kernel
 abbrev pub own_given : OneKernel → View → Addresses → MsgId → Pid → Sort → List Gets
-own_given s v a id q sort.Request = gets (Receiver id) (option_map_or (λ n. a (Child n)) (child_number s q) (unmoved 0)) ∷ gets (Sender id) (unmoved v.acting) ∷ []
+own_given s v a id q sort.Request = gets (Receiver id) (unwrap_or (known_place s v v.acting a q) (unmoved 0)) ∷ gets (Sender id) (acting_place v manager) ∷ []
 own_given s v a id q (sort.Between passage) = goes_between v id q
 own_given s v a id q sort.Buries = goes_between v id q
 own_given s v a id q w = []
@@ -83,6 +90,7 @@ belongs_to q (Owner p) = pid_eq p q
 belongs_to q (Child n) = pid_eq q manager
 belongs_to q (Name n) = pid_eq q switchboard
 belongs_to q (Answer n) = pid_eq q manager
+belongs_to q ToBoard = pid_eq q manager
 belongs_to q h = false
 
 -- whom a link leads to, if there is one
@@ -102,6 +110,7 @@ leads_to s (Owner p) = option_and_then (λ x. owner_in x.status) (kernel.alive (
 leads_to s (Child n) = manage.child_numbered s.manager.children n
 leads_to s (Name n) = link_target (option_map (λ k. k.link) (slice_get s.switchboard.names n))
 leads_to s (Answer n) = link_target (option_and_then (λ r. r.answer) (manage.pending_numbered n s.manager.pending))
+leads_to s ToBoard = Some switchboard
 leads_to s h = None
 
 -- an address of q's that leads to p and knows fewer moves of it
@@ -141,3 +150,4 @@ first_addresses b (Child n) = unmoved (option_map_or (λ p. p.pid.home) (manage.
 first_addresses b (Name n) = unmoved 0
 first_addresses b (Answer n) = unmoved 0
 first_addresses b (AskedBy p) = unmoved 0
+first_addresses b ToBoard = unmoved 0

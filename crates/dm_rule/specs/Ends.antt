@@ -1,5 +1,5 @@
 -- The lines at the end of a run: where everything stands then, by the kernel without machines, the view and the addresses.
-use Rattle.std.specs.Prelude.{ℕ, zero, suc, ◌/◌, option_map, List, [], ◌∷◌, ◌++◌, length, map}
+use Rattle.std.specs.Prelude.{ℕ, zero, suc, ◌/◌, Bool, true, false, not, ◌==◌, ◌&&◌, if◌then◌else◌, option_map, List, [], ◌∷◌, ◌++◌, length, map}
 use Rattle.std.specs.Option.{option_map_or}
 use Rattle.std.specs.List.{enumerate_from, flat_map}
 use Rattle.std.specs.declared.option.Option.{Option}
@@ -58,6 +58,11 @@ first_with f v p (suc n) = or (first_with f v p n) (stood_at n (f (v.known n p))
 abbrev pub stood : View → Pid → ℕ → Option Stood
 stood v p n = or (first_with standing_of v p n) (first_with awaits v p n)
 
+abbrev pub stands_here : Standing → Bool
+stands_here standing.Here = true
+stands_here standing.Leaving = false
+stands_here standing.Arriving = false
+
 -- what the lines say of a status: not which request is under way
 abbrev pub doing_of : PlainStatus → Doing
 doing_of Ready = doing.Ready
@@ -88,9 +93,25 @@ process_lines pt p (Some (kernel.Ended because)) = end.Ended p because ∷ []
 abbrev pub homes_with : Point → (Pid → List EndLine) → ℕ → List EndLine
 homes_with pt f n = joined_below (λ home. home_with f home (pt.kernel.made home)) n
 
+-- a place that isn't machine 0, here
+abbrev pub is_moved : Stood → Bool
+is_moved s = not ((s.at == 0) && stands_here s.standing)
+
+-- where a server stands, unless it is here on machine 0
+abbrev pub place_line : Pid → Stood → List EndLine
+place_line p s = if is_moved s then end.Place p s.at s.standing ∷ [] else []
+
+-- how many messages it has sent, and where it stands
+abbrev pub sent_lines : Pid → ℕ → Option Stood → List EndLine
+sent_lines p sent found = end.Server p sent ∷ option_map_or (place_line p) found []
+
 -- for each process that was ever made, by home and by number
 abbrev pub each_process : Point → (Pid → List EndLine) → List EndLine
 each_process pt f = homes_with pt f pt.kernel.machines
+
+-- for the servers, and for each process
+abbrev pub each_holder : Point → (Pid → List EndLine) → List EndLine
+each_holder pt f = f switchboard ++ f manager ++ each_process pt f
 
 -- the switchboard's names from place n on, in order
 abbrev pub name_lines : Addresses → ℕ → List NamedLink → List EndLine
@@ -111,7 +132,7 @@ abbrev pub queue_lines : Point → List EndLine
 queue_lines pt = each_process pt (λ p. queue_at pt.view p (first_with standing_of pt.view p pt.kernel.machines))
 
 abbrev pub holding_lines : Point → List EndLine
-holding_lines pt = joined_below (λ m. each_process pt (λ p. list_line (end.Holding m p) (pt.view.held m p))) pt.kernel.machines
+holding_lines pt = joined_below (λ m. each_holder pt (λ p. list_line (end.Holding m p) (pt.view.held m p))) pt.kernel.machines
 
 abbrev pub inbox_lines : Point → List EndLine
 inbox_lines pt = joined_below (λ m. list_line (end.Inbox m) (pt.view.inbox m)) pt.kernel.machines
@@ -122,9 +143,9 @@ stream_lines pt = joined_below (λ a. joined_below (λ b. list_line (end.Stream 
 
 abbrev pub server_lines : Point → List EndLine
 server_lines pt =
-    end.Server switchboard pt.kernel.switchboard.sent
-    ∷ end.Server manager pt.kernel.manager.sent
-    ∷ name_lines pt.addresses 0 pt.kernel.switchboard.names
+    sent_lines switchboard pt.kernel.switchboard.sent (stood pt.view switchboard pt.kernel.machines)
+    ++ sent_lines manager pt.kernel.manager.sent (stood pt.view manager pt.kernel.machines)
+    ++ name_lines pt.addresses 0 pt.kernel.switchboard.names
     ++ child_lines pt.addresses 1 pt.kernel.manager.children
     ++ pending_lines pt.kernel.manager.pending
 

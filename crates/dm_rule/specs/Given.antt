@@ -17,7 +17,7 @@ use Rattle.dm_onekernel.specs.declared.label.Label.{Label}
 use Rattle.dm_onekernel.specs.declared.label.Label.TheVariants as label
 use Rattle.dm_onekernel.specs.declared.label.Reply.{Reply}
 use Rattle.dm_onekernel.specs.declared.label.Reply.TheVariants as reply
-use Rattle.dm_onekernel.specs.Boot.{switchboard}
+use Rattle.dm_onekernel.specs.Boot.{switchboard, manager}
 use Rattle.dm_onekernel.specs.PlainProcess.{PlainProcess, reg}
 use Rattle.dm_onekernel.specs.Kernel.{NamedLink, OneKernel}
 use Rattle.dm_onekernel.specs.Calls as calls
@@ -143,7 +143,7 @@ board_keeps a id names answer = []
 -- an answer, with what it hands out and what the switchboard keeps
 abbrev pub board_asks : View → Addresses → MsgId → MsgId → List NamedLink → List ℕ → board.Asked → List Gets
 board_asks v a id sent names body asked =
-    gets (Receiver sent) (a (Enclosed id 0)) ∷ gets (Sender sent) (unmoved v.acting) ∷ board_finds a sent names body asked.answer ++ board_keeps a id names asked.answer
+    gets (Receiver sent) (a (Enclosed id 0)) ∷ gets (Sender sent) (acting_place v switchboard) ∷ board_finds a sent names body asked.answer ++ board_keeps a id names asked.answer
 
 -- the switchboard answers over the first link; what it hands out keeps its place, and what it keeps too
 abbrev pub board_gets : OneKernel → View → Addresses → MsgId → PlainWhat → List Gets
@@ -153,15 +153,15 @@ board_gets s v a id w = []
 
 -- the manager's message to a child goes over its link to it
 abbrev pub manager_controls : View → Addresses → ℕ → PlainMessage → List Gets
-manager_controls v a code sent = gets (Receiver sent.id) (a (Child code)) ∷ gets (Sender sent.id) (unmoved v.acting) ∷ []
+manager_controls v a code sent = gets (Receiver sent.id) (a (Child code)) ∷ gets (Sender sent.id) (acting_place v manager) ∷ []
 
 -- the manager: a request to make a process goes to a kernel, a control message and a request to move over the link to the child,
 -- and an answer over the link that came with the request; the link for the answer to a request is kept, if one came
 abbrev pub telling_gets : View → Addresses → MsgId → ℕ → PlainMessage → PlainWhat → List Gets
 telling_gets v a id code sent (what.Create image links) =
-    gets (Receiver sent.id) (unmoved sent.to.home) ∷ gets (Sender sent.id) (unmoved v.acting) ∷ gets (Answer sent.id.n) (a (Enclosed id 0)) ∷ encloses sent.id 0 (enclosed_from a id 1 links)
+    gets (Receiver sent.id) (unmoved sent.to.home) ∷ gets (Sender sent.id) (acting_place v manager) ∷ gets (Answer sent.id.n) (a (Enclosed id 0)) ∷ encloses sent.id 0 (enclosed_from a id 1 links)
 telling_gets v a id code sent (what.User c channel body links) =
-    gets (Receiver sent.id) (a (Enclosed id 0)) ∷ gets (Sender sent.id) (unmoved v.acting) ∷ []
+    gets (Receiver sent.id) (a (Enclosed id 0)) ∷ gets (Sender sent.id) (acting_place v manager) ∷ []
 telling_gets v a id code sent (what.Move machine) = gets (Answer sent.id.n) (a (Enclosed id 0)) ∷ manager_controls v a code sent
 telling_gets v a id code sent w = manager_controls v a code sent
 
@@ -172,7 +172,7 @@ manager_sends v a id code message = option_map_or (λ sent. telling_gets v a id 
 -- an answer is passed on to whoever asked that a process be made, or move: over the link that was kept with request n
 abbrev pub manager_answers : View → Addresses → ℕ → Option PlainMessage → List Gets
 manager_answers v a n message =
-    option_map_or (λ sent. gets (Receiver sent.id) (a (Answer n)) ∷ gets (Sender sent.id) (unmoved v.acting) ∷ gets (Enclosed sent.id 0) (unmoved v.acting) ∷ []) message []
+    option_map_or (λ sent. gets (Receiver sent.id) (a (Answer n)) ∷ gets (Sender sent.id) (acting_place v manager) ∷ gets (Enclosed sent.id 0) (acting_place v manager) ∷ []) message []
 
 -- the manager takes a message: a user's, or the answer to a request of its own
 abbrev pub manager_gets : OneKernel → View → Addresses → PlainMessage → PlainWhat → Option manage.ManagerTook → List Gets

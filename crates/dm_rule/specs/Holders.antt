@@ -1,5 +1,5 @@
 -- What has an address, and which address each has.
-use Rattle.std.specs.Prelude.{ℕ, ◌==◌, Bool, false, ◌&&◌, if◌then◌else◌, List, [], ◌∷◌}
+use Rattle.std.specs.Prelude.{ℕ, ◌==◌, Bool, true, false, ◌&&◌, if◌then◌else◌, List, [], ◌∷◌}
 use Rattle.dm_link.specs.declared.Pid.{Pid}
 use Rattle.dm_link.specs.Names.{Place, pid_eq}
 use Rattle.dm_message.specs.declared.MsgId.{MsgId}
@@ -8,7 +8,7 @@ use Rattle.dm_rule.specs.View.{View}
 
 -- what has an address: a link in a slot, the owner in a data move, a message's receiver, its sender and its links, the
 -- manager's link to a child, the switchboard's link at a place of its list, the link for the answer to a request of the
--- manager's, who asked a process to move that follows that request
+-- manager's, who asked a process to move that follows that request, where the manager knows the switchboard to be
 pub data Holder : Type 0 where
   Slot : (process : Pid) → (slot : ℕ) → Holder
   Owner : (process : Pid) → Holder
@@ -19,6 +19,7 @@ pub data Holder : Type 0 where
   Name : (place : ℕ) → Holder
   Answer : (n : ℕ) → Holder
   AskedBy : (process : Pid) → Holder
+  ToBoard : Holder
 
 -- for each of these the machine that its address names, and how often the process had moved that it knows of
 abbrev pub Addresses : Type 0
@@ -35,6 +36,7 @@ holder_eq (Child m) (Child n) = m == n
 holder_eq (Name m) (Name n) = m == n
 holder_eq (Answer m) (Answer n) = m == n
 holder_eq (AskedBy p) (AskedBy q) = pid_eq p q
+holder_eq ToBoard ToBoard = true
 holder_eq g h = false
 
 -- a holder gets an address

@@ -6,7 +6,8 @@ use Rattle.dm_link.specs.declared.Pid.{Pid}
 use Rattle.dm_message.specs.declared.MsgId.{MsgId}
 use Rattle.dm_message.specs.declared.kind.MessageKind.{MessageKind}
 use Rattle.dm_onekernel.specs.declared.boot.Boot.{Boot}
-use Rattle.dm_onekernel.specs.Boot.{IsValid}
+use Rattle.dm_link.specs.Names.{pid_eq}
+use Rattle.dm_onekernel.specs.Boot.{IsValid, manager, switchboard}
 use Rattle.dm_onekernel.specs.declared.label.Label.{Label}
 use Rattle.dm_onekernel.specs.declared.label.Label.TheVariants as label
 use Rattle.dm_line.specs.declared.line.Line.{Line}
@@ -95,11 +96,12 @@ PhasesAlways = (b : Boot) (es : List Step) (pt : Point) (p : Pid) → IsValid b 
 abbrev pub KernelsInOrderAlways : Type 0
 KernelsInOrderAlways = (b : Boot) (es : List Step) (pt : Point) → IsValid b → Leads b (first_point b) es pt → KernelsInOrder pt.view
 
--- wherever the rule leads, the next group has no label of a process that moves, and leaves its plain value
+-- wherever the rule leads, the next group has no label of a process that moves, and leaves its plain value; and so of a server that
+-- moves, for which it takes no message
 abbrev pub MovingStaysAlways : Type 0
 MovingStaysAlways =
     (b : Boot) (es : List Step) (pt : Point) (d : Step) (w : Spelled) (p : Pid) (k : MessageKind) (source destination : ℕ) (id : Option MsgId) → IsValid b → Leads b (first_point b) es pt → group_of b pt d ≡ Some w
-    → IsIn pt.view p (Moves k source destination id) → AllSpare pt.kernel p w.lines × (w.point.kernel.processes p ≡ pt.kernel.processes p)
+    → IsIn pt.view p (Moves k source destination id) → AllSpare pt.kernel p w.lines × (w.point.kernel.processes p ≡ pt.kernel.processes p) × (pid_eq p switchboard ≡ true → w.point.kernel.switchboard ≡ pt.kernel.switchboard) × (pid_eq p manager ≡ true → w.point.kernel.manager ≡ pt.kernel.manager)
 
 -- the test for quiet is passed exactly where nothing is on its way
 abbrev pub QuietIsTested : Type 0

@@ -1,5 +1,5 @@
 -- What migration adds to the rule: messages that are held or go on, a process that leaves and one that comes, and updates.
-use Rattle.std.specs.Prelude.{ℕ, ◌+◌, ◌/◌, Bool, ◌==◌, if◌then◌else◌, List, [], ◌∷◌, ◌++◌, length, map}
+use Rattle.std.specs.Prelude.{ℕ, ◌+◌, ◌*◌, ◌/◌, Bool, ◌==◌, if◌then◌else◌, option_map, List, [], ◌∷◌, ◌++◌, length, map}
 use Rattle.std.specs.Option.{option_map_or}
 use Rattle.std.specs.List.{enumerate_from}
 use Rattle.std.specs.declared.option.Option.{Option}
@@ -18,13 +18,13 @@ use Rattle.dm_onekernel.specs.declared.label.Label.TheVariants as label
 use Rattle.dm_onekernel.specs.Boot.{switchboard, manager}
 use Rattle.dm_onekernel.specs.Pieces.{answer_id}
 use Rattle.dm_onekernel.specs.PlainProcess.{PlainProcess, PlainStatus, Ready, Waiting, Moving}
-use Rattle.dm_onekernel.specs.Kernel.{MoveNote, OneKernel, Pending}
+use Rattle.dm_onekernel.specs.Kernel.{Manager, MoveNote, NamedLink, OneKernel, Pending, Switchboard}
 use Rattle.dm_onekernel.specs.Step as kernel
 use Rattle.dm_line.specs.declared.line.Line.{Line}
 use Rattle.dm_line.specs.declared.line.Line.TheVariants as line
 use Rattle.dm_line.specs.declared.line.Stage.TheVariants as stage
-use Rattle.dm_rule.specs.View.{Told, Known, Unknown, Here, Frozen, Incoming, Forward, target_of}
-use Rattle.dm_rule.specs.Addresses.{Addresses, Holder, Slot, Sender, Child, Name, Answer, is_behind, is_told_back, child_number, place_told}
+use Rattle.dm_rule.specs.View.{Told, Known, Unknown, Here, Frozen, Incoming, Forward, has_seat, is_server, target_of}
+use Rattle.dm_rule.specs.Addresses.{Addresses, Holder, Slot, Sender, Child, Name, Answer, ToBoard, is_behind, is_told_back, known_place, place_told}
 use Rattle.dm_rule.specs.Point.{Point}
 use Rattle.dm_rule.specs.Parts.{Part, Says, Routes, Again, Owns}
 
@@ -38,12 +38,43 @@ abbrev pub links_size : List (Option PlainLink) → ℕ
 links_size [] = 0
 links_size (l ∷ ls) = option_map_or (λ l. 24) l 0 + links_size ls
 
--- the pieces that a process goes in: chunks of up to 512 bytes of its state, then blocks of 256 bytes of its memory
-abbrev pub chunks_of : PlainProcess → ℕ
-chunks_of x = (102 + status_size x.status + links_size x.links + 511) / 512
+-- those of the switchboard's: its names, each with its length and its link, behind a version, its name and three numbers
+abbrev pub names_size : List NamedLink → ℕ
+names_size [] = 0
+names_size (k ∷ ks) = 25 + length k.name + names_size ks
 
-abbrev pub pieces_of : PlainProcess → ℕ
-pieces_of x = chunks_of x + length x.memory / 256
+abbrev pub board_size : Switchboard → ℕ
+board_size b = 18 + names_size b.names
+
+-- those of the manager's: the children's addresses and that of the switchboard, and the pending requests, each with its link, if it has
+-- one
+abbrev pub requests_size : List Pending → ℕ
+requests_size [] = 0
+requests_size (r ∷ rs) = 6 + option_map_or (λ l. 24) r.answer 0 + requests_size rs
+
+abbrev pub manager_size : Manager → ℕ
+manager_size g = 32 + 10 * length g.children + requests_size g.pending
+
+-- how large what moves is: its state bytes, and the blocks of its memory, which a server has none of
+pub record Size : Type 0 where
+  pub state : ℕ
+  pub blocks : ℕ
+
+abbrev pub process_size : PlainProcess → Size
+process_size x = record { state = 102 + status_size x.status + links_size x.links; blocks = length x.memory / 256 }
+
+abbrev pub size_of : OneKernel → Pid → Option Size
+size_of s p =
+    if pid_eq p switchboard then Some (record { state = board_size s.switchboard; blocks = 0 })
+    else if pid_eq p manager then Some (record { state = manager_size s.manager; blocks = 0 })
+    else option_map process_size (kernel.alive (s.processes p))
+
+-- the pieces that it goes in: chunks of up to 512 bytes of its state, then blocks of 256 bytes of its memory
+abbrev pub chunks_of : Size → ℕ
+chunks_of x = (x.state + 511) / 512
+
+abbrev pub pieces_of : Size → ℕ
+pieces_of x = chunks_of x + x.blocks
 
 -- to a machine's kernel
 abbrev pub to_kernel : MessageKind → ℕ → Part
@@ -84,9 +115,15 @@ reply_parts id l k = Says l ∷ to_kernel k id.from.home ∷ []
 abbrev pub gives_piece : MsgId → MessageKind → List Part
 gives_piece id k = reply_parts id (line.Proto id) k
 
--- a piece has come: where it is the last chunk the first block is asked for, and where it is the last block all is taken
+-- a piece has come: where it is the last chunk the first block is asked for, and where it is the last block all is taken; of a server,
+-- which has no blocks, with the last chunk
+abbrev pub takes_last_chunk : MsgId → Pid → List Part
+takes_last_chunk id p =
+    if is_server p then Says (line.Migration stage.StateTaken p) ∷ reply_parts id (line.Migration stage.MemoryTaken p) kind.AllTaken
+    else reply_parts id (line.Migration stage.StateTaken p) kind.PullBlock
+
 abbrev pub takes_chunk : MsgId → Pid → Bool → List Part
-takes_chunk id p last = if last then reply_parts id (line.Migration stage.StateTaken p) kind.PullBlock else gives_piece id kind.PullState
+takes_chunk id p last = if last then takes_last_chunk id p else gives_piece id kind.PullState
 
 abbrev pub takes_block : MsgId → Pid → Bool → List Part
 takes_block id p last = if last then reply_parts id (line.Migration stage.MemoryTaken p) kind.AllTaken else gives_piece id kind.PullBlock
@@ -112,7 +149,7 @@ calls_off pt m p (Incoming from) =
 calls_off pt m p (Forward at moves) = Says (line.NoCall p) ∷ []
 
 -- what a kernel is told of a process by another kernel; `fits` says whether there is room for it, and what is free
-abbrev pub told_step : Point → ℕ → MsgId → Pid → (Bool × ℕ × ℕ) → PlainProcess → Sort → Option (List Part)
+abbrev pub told_step : Point → ℕ → MsgId → Pid → (Bool × ℕ × ℕ) → Size → Sort → Option (List Part)
 told_step pt m id p fits x (sort.Between sort.Ask) = Some (accepts id.from.home p fits.0 fits.1 fits.2)
 told_step pt m id p fits x (sort.Between sort.Refuse) = Some (Says (line.Stays p) ∷ tells_asker (pt.kernel.notes p) ends.Stayed)
 told_step pt m id p fits x (sort.Between sort.PullState) = Some (gives_piece id kind.State)
@@ -137,7 +174,7 @@ answers_in rs = map (λ r. Answer r.n) rs
 abbrev pub holders_of : OneKernel → Pid → List Holder
 holders_of s q =
     if pid_eq q switchboard then holders_numbered Name 0 s.switchboard.names
-    else if pid_eq q manager then holders_numbered Child 1 s.manager.children ++ answers_in s.manager.pending
+    else if pid_eq q manager then holders_numbered Child 1 s.manager.children ++ answers_in s.manager.pending ++ ToBoard ∷ []
     else slot_holders q (kernel.alive (s.processes q))
 
 -- how many of these an update changes
@@ -151,7 +188,7 @@ behind_count s a q told = option_map_or (λ t. behind_among (is_behind s a q t.0
 abbrev pub updates : Point → MsgId → Told → List Part
 updates pt id t = Says (line.Updated id (behind_count pt.kernel pt.addresses t.receiver (place_told t.about))) ∷ []
 
--- a kernel's own message, at a process that is here: a request to move, to this very machine or another, or a notice
+-- a kernel's own message, at a process or a server that is here: a request to move, to this very machine or another, or a notice
 abbrev pub told_here : Point → ℕ → MsgId → Told → Sort → Option (List Part)
 told_here pt m id t sort.Request = Some (if m == target_of (Some t) then Says (line.Here id) ∷ [] else leaves_for t.receiver (target_of (Some t)))
 told_here pt m id t sort.Notice = Some (updates pt id t)
@@ -172,28 +209,14 @@ by_known pt id k sender here over (Frozen to) = Some (Says (line.Held id) ∷ []
 by_known pt id k sender here over (Incoming from) = Some (Says (line.Held id) ∷ [])
 by_known pt id k sender here over (Forward at moves) = Some (forwards_on pt.addresses id k sender at)
 
--- at a server, which never moves
-abbrev pub told_server : Point → MsgId → Told → Sort → Option (List Part)
-told_server pt id t sort.Notice = Some (updates pt id t)
-told_server pt id t s = None
-
--- a kernel's own message whose receiver is here: the switchboard, the manager, or another process
-abbrev pub hears_here : Point → ℕ → MsgId → Told → Option (List Part)
-hears_here pt m id t =
-    if pid_eq t.receiver switchboard then told_server pt id t (sort_of t.kind)
-    else if pid_eq t.receiver manager then told_server pt id t (sort_of t.kind)
-    else told_here pt m id t (sort_of t.kind)
-
 -- of these messages only a request to move is answered by an update, in the manager's name
 abbrev pub process_told : Point → ℕ → MsgId → Told → Known → Option (List Part)
-process_told pt m id t known = by_known pt id t.kind manager (hears_here pt m id t) (told_ended id (sort_of t.kind)) known
+process_told pt m id t known = by_known pt id t.kind manager (told_here pt m id t (sort_of t.kind)) (told_ended id (sort_of t.kind)) known
 
--- the manager is told to move a process: not a server, one of its children, along its link to it
-abbrev pub migrates_child : Addresses → Pid → Option ℕ → List Part
-migrates_child a p number = option_map_or (λ n. Owns kind.Migrate p (a (Child n)).at ∷ []) number (Says (line.NoChild p) ∷ [])
+-- the manager is told to move a process, which is one of its children, the switchboard or itself: along the address that it has of it
+abbrev pub migrates_to : Pid → Option Place → List Part
+migrates_to p place = option_map_or (λ a. Owns kind.Migrate p a.at ∷ []) place (Says (line.NoChild p) ∷ [])
 
+-- on the machine where it is here; while it is on its way nothing is told to move
 abbrev pub migrates : Point → Pid → List Part
-migrates pt p =
-    if pid_eq p switchboard then Says (line.Pinned p) ∷ []
-    else if pid_eq p manager then Says (line.Pinned p) ∷ []
-    else migrates_child pt.addresses p (child_number pt.kernel p)
+migrates pt p = if has_seat pt.view then migrates_to p (known_place pt.kernel pt.view pt.view.seat pt.addresses p) else Says line.Away ∷ []

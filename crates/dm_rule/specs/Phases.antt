@@ -1,4 +1,4 @@
--- How far the migration of each process has come: what every machine knows of it, which one message of the protocol is under way, and
+-- How far the migration of each process and each server has come: what every machine knows of it, which one message of the protocol is under way, and
 -- what is left over of migrations that were called off.
 use Rattle.std.specs.Prelude.{◌≡◌, ◌⊎◌, ⊤, ℕ, ◌≤◌, ◌<◌, Bool, true, false, not, ◌==◌, ◌&&◌, ◌||◌, if◌then◌else◌}
 use Rattle.std.specs.declared.option.Option.{Option}
@@ -11,7 +11,7 @@ use Rattle.dm_message.specs.declared.kind.MessageKind.TheVariants as kind
 use Rattle.dm_message.specs.Sorts.{Sort, sort_of, pulls_piece, brings_piece}
 use Rattle.dm_message.specs.Sorts as sort
 use Rattle.dm_rule.specs.View.{View, Told, Of, Known, Unknown, Here, Frozen, Incoming, Forward, is_kernels}
-pub use Rattle.dm_rule.specs.View.{tells_calloff, is_calloff}
+pub use Rattle.dm_rule.specs.View.{is_here, tells_calloff, is_calloff}
 use Rattle.dm_rule.specs.Spots.{Spot, Inbox, Untaken, standing}
 
 -- what the kernels of two machines tell each other while a process moves from the source to the destination
@@ -30,13 +30,21 @@ tells_onward (sort.Between sort.Memory) = true
 tells_onward (sort.Between sort.Restart) = true
 tells_onward s = false
 
--- a process was never made, rests on a machine, has ended on one, which has forgotten it, or moves: the kind of the message that is under
--- way, and its name once it was put
+-- a process was never made, rests on a machine, has ended, and the machine where it did has forgotten it, or moves: the kind of the
+-- message that is under way, and its name once it was put
 pub data Phase : Type 0 where
   Nowhere : Phase
   Rests : (at : ℕ) → Phase
   Over : (at : ℕ) → Phase
   Moves : (kind : MessageKind) → (source : ℕ) → (destination : ℕ) → (id : Option MsgId) → Phase
+
+-- a machine has a process or a server, or holds it back
+abbrev pub has_it : Known → Bool
+has_it Unknown = false
+has_it Here = true
+has_it (Frozen to) = true
+has_it (Incoming from) = false
+has_it (Forward at moves) = false
 
 -- a process isn't on this machine: it knows nothing of it, or only where it went
 abbrev pub is_away : Known → Bool
@@ -48,11 +56,6 @@ is_away k = false
 abbrev pub is_unknown : Known → Bool
 is_unknown Unknown = true
 is_unknown k = false
-
--- it is here
-abbrev pub is_here : Known → Bool
-is_here Here = true
-is_here k = false
 
 -- the message that lets the destination restart the process
 abbrev pub tells_restart : Sort → Bool

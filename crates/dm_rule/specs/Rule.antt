@@ -1,5 +1,5 @@
 -- The group rule: what follows the head of a group, decided by where the run stands before it.
-use Rattle.std.specs.Prelude.{ℕ, zero, suc, ◌+◌, ◌-◌, ◌/◌, Bool, true, false, not, ◌==◌, ◌&&◌, nat_lt, nat_le, if◌then◌else◌, is_some, option_map, List, [], ◌∷◌, ◌++◌, length, map, slice_get, find}
+use Rattle.std.specs.Prelude.{ℕ, zero, suc, ◌+◌, ◌-◌, ◌/◌, Bool, true, false, not, ◌==◌, ◌&&◌, ◌||◌, nat_lt, nat_le, if◌then◌else◌, is_some, option_map, List, [], ◌∷◌, ◌++◌, length, map, slice_get, find}
 use Rattle.std.specs.Option.{option_map_or}
 use Rattle.std.specs.List.{list_any}
 -- the numbers from n on, so many
@@ -45,7 +45,7 @@ use Rattle.dm_rule.specs.View.{View, Pair, SentLoad, Told, About, Of, Known, Unk
 use Rattle.dm_rule.specs.Point.{Point, after_line, move_target}
 use Rattle.dm_rule.specs.Parts.{Part, Says, Routes, Transmits, Spelled, spelled, pair_window}
 pub use Rattle.dm_rule.specs.Parts.{behind}
-use Rattle.dm_rule.specs.Migrating.{asked_to_move, by_known, told_step, process_told, migrates, calls_off}
+use Rattle.dm_rule.specs.Migrating.{asked_to_move, by_known, told_step, process_told, migrates, calls_off, size_of}
 pub use Rattle.dm_rule.specs.Burying.{drop_parts}
 use Rattle.dm_rule.specs.Burying.{buried, ends_with, tells_end}
 
@@ -237,9 +237,9 @@ process_handles pt m id msg known = by_known pt id (plain_kind msg.what) msg.sen
 abbrev pub handles : Boot → Point → ℕ → MsgId → PlainMessage → Option (List Part)
 handles b pt m id msg = if msg.to.num == 0 then kernel_handles b pt m id msg.what else process_handles pt m id msg (pt.view.known m msg.to)
 
--- whether so many blocks and a slot are free, and what is
+-- whether there is room for what has so many blocks, which for a server there always is, and what is free
 abbrev pub fits : Room → ℕ → Bool × ℕ × ℕ
-fits r blocks = (has_room r blocks, r.slots, r.blocks)
+fits r blocks = ((blocks == 0) || has_room r blocks, r.slots, r.blocks)
 
 -- a process is on its way here from this machine
 abbrev pub is_waited_from : ℕ → Known → Bool
@@ -258,7 +258,7 @@ abbrev pub kernel_hears : Boot → Point → ℕ → MsgId → MessageKind → A
 kernel_hears b pt m id k (Of p) =
     if tells_end (sort_of k) then Some (buried pt m id p)
     else if is_stale pt m id k p then Some (Says (line.Stale id) ∷ [])
-    else bind (kernel.alive (pt.kernel.processes p)) (λ x. told_step pt m id p (fits (free_room b pt m) (length x.memory / 256)) x (sort_of k))
+    else bind (size_of pt.kernel p) (λ x. told_step pt m id p (fits (free_room b pt m) x.blocks) x (sort_of k))
 kernel_hears b pt m id k about = None
 
 -- a message that isn't in the bag is a kernel's own: what its first put told of it

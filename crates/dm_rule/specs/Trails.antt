@@ -4,11 +4,11 @@ use Rattle.std.specs.Prelude.{◌≡◌, ◌≢◌, ℕ, zero, suc, ◌+◌, ◌
 use Rattle.std.specs.declared.option.Option.{Option}
 use Rattle.std.specs.declared.option.Option.TheVariants.{None, Some}
 use Rattle.dm_link.specs.declared.Pid.{Pid}
-use Rattle.dm_link.specs.Names.{Place, pid_eq}
+use Rattle.dm_link.specs.Names.{Place}
 use Rattle.dm_message.specs.declared.MsgId.{MsgId}
 use Rattle.dm_message.specs.declared.kind.MessageKind.TheVariants as kind
 use Rattle.dm_onekernel.specs.declared.boot.Boot.{Boot}
-use Rattle.dm_onekernel.specs.Boot.{IsValid, switchboard, manager}
+use Rattle.dm_onekernel.specs.Boot.{IsValid, manager}
 use Rattle.dm_onekernel.specs.Kernel.{OneKernel}
 use Rattle.dm_onekernel.specs.Options.{bind}
 use Rattle.dm_onekernel.specs.Step as kernel
@@ -19,6 +19,7 @@ use Rattle.dm_rule.specs.Acts as act
 use Rattle.dm_line.specs.Sets.{at_pid}
 use Rattle.dm_rule.specs.View.{View, Told, Known, Unknown, Here, Frozen, Incoming, Forward, is_kernels}
 use Rattle.dm_rule.specs.View as view
+pub use Rattle.dm_rule.specs.View.{is_server}
 use Rattle.dm_rule.specs.Addresses.{Addresses, Holder, Receiver, Sender}
 use Rattle.dm_rule.specs.Homes.{names}
 use Rattle.dm_rule.specs.Point.{Point, first_point, after_line}
@@ -65,9 +66,6 @@ abbrev pub IsOn : Trails → Pid → Place → Type 0
 IsOn t q place = slice_get (t q) place.moves ≡ Some place.at
 
 -- a server, or a process that was made
-abbrev pub is_server : Pid → Bool
-is_server p = pid_eq p switchboard || pid_eq p manager
-
 abbrev pub is_made : OneKernel → Pid → Bool
 is_made s p = is_server p || is_some (s.processes p)
 

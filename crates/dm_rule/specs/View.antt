@@ -27,7 +27,7 @@ use Rattle.dm_line.specs.declared.line.Stage.{Stage}
 use Rattle.dm_line.specs.declared.line.Stage.TheVariants as stage
 use Rattle.dm_line.specs.Sets.{at_machine, at_pair, at_id, at_pid, at_record, without, moved_back, without_id, without_front}
 
--- what a machine knows of a process
+-- what a machine knows of a process or a server
 pub data Known : Type 0 where
   Unknown : Known
   Here : Known
@@ -85,9 +85,15 @@ pub record View : Type 0 where
   pub asked : Pid → ℕ
   -- whether all of a process has come to the machine that accepted it last
   pub come : Pid → Bool
+  -- the machine where the process manager is, or was last
+  pub seat : ℕ
   pub told : MsgId → Option Told
   -- what the outcome line of this group was about
   pub topic : About
+
+-- the switchboard, or the manager
+abbrev pub is_server : Pid → Bool
+is_server p = pid_eq p switchboard || pid_eq p manager
 
 -- the next message of the acting machine's kernel
 abbrev pub own_id : View → MsgId
@@ -247,13 +253,23 @@ marked_at wire k sent = option_map_or (λ s. slice_set wire k (record s { delive
 abbrev pub marked : Pair → ℕ → Pair
 marked p k = record p { wire = marked_at p.wire k (slice_get p.wire k) }
 
--- the machine that a directive acts on
-abbrev pub actor : Step → ℕ
-actor (step.Turn m) = m
-actor (step.Tick m) = m
-actor (step.Deliver a b k) = b
-actor (step.Migrate p m) = 0
-actor (step.CallOff p m) = m
+-- it is here
+abbrev pub is_here : Known → Bool
+is_here Here = true
+is_here k = false
+
+-- the manager is here on a machine, and so on its seat
+abbrev pub has_seat : View → Bool
+has_seat v = is_here (v.known v.seat manager)
+
+-- the machine that a directive acts on: that where the manager is, for a request to move; where it is on its way no machine acts, and
+-- the lines are machine 0's
+abbrev pub actor : View → Step → ℕ
+actor v (step.Turn m) = m
+actor v (step.Tick m) = m
+actor v (step.Deliver a b k) = b
+actor v (step.Migrate p m) = if has_seat v then v.seat else 0
+actor v (step.CallOff p m) = m
 
 abbrev pub begins : View → ℕ → About → View
 begins v m a = record v { acting = m; groups = v.groups + 1; topic = a }
@@ -262,7 +278,7 @@ abbrev pub after_head : View → Step → View
 after_head v (step.Turn m) = begins v m NothingElse
 after_head v (step.Tick m) = begins v m NothingElse
 after_head v (step.Deliver a b k) = with_pair (begins v b NothingElse) a b (marked (v.pair a b) k)
-after_head v (step.Migrate p m) = begins v 0 (Target m)
+after_head v (step.Migrate p m) = begins v (actor v (step.Migrate p m)) (Target m)
 after_head v (step.CallOff p m) = begins v m NothingElse
 
 abbrev pub target_in : About → ℕ
@@ -288,9 +304,15 @@ abbrev pub released : View → Pid → View
 released v p =
     record v { inbox = at_machine v.inbox v.acting (v.held v.acting p ++ v.inbox v.acting); held = at_record v.held v.acting p [] }
 
--- a process is here, at the ring's back
+-- a process is here, at the ring's back; a server stands in no ring, and where the manager is, is its seat
+abbrev pub ring_with : List Pid → Pid → List Pid
+ring_with ring p = if is_server p then ring else ring ++ p ∷ []
+
+abbrev pub seated : View → Pid → View
+seated v p = record v { seat = if pid_eq p manager then v.acting else v.seat }
+
 abbrev pub rejoins : View → Pid → View
-rejoins v p = released (with_ring (knowing v p Here) (v.ring v.acting ++ p ∷ [])) p
+rejoins v p = released (seated (with_ring (knowing v p Here) (ring_with (v.ring v.acting) p)) p) p
 
 abbrev pub gone_to : Known → ℕ → Known
 gone_to (Frozen to) moves = Forward to moves
@@ -356,13 +378,18 @@ abbrev pub sets_off : View → Pid → About → View
 sets_off v p (Target m) = frozen_for v p m
 sets_off v p a = frozen_for (handled_first v) p (target_of (option_and_then v.told (slice_get (v.inbox v.acting) 0)))
 
--- steps of migrations: 1, 3, 4, 5 and 8 handle the message at the front, but for step 1 of a process that is asked to move
+-- the last chunk of a server is its last piece: step 5 follows at once, and handles it
+abbrev pub handled_for : View → Pid → View
+handled_for v p = record v { inbox = if is_server p then v.inbox else (handled_first v).inbox }
+
+-- steps of migrations: 1, 3, 4, 5 and 8 handle the message at the front, but for step 1 of a process that is asked to move, and step 4 of
+-- a server
 abbrev pub after_stage : View → Pid → Stage → View
 after_stage v p stage.Frozen = sets_off v p v.topic
 after_stage v p stage.Asked = v
 after_stage v p stage.Accepted =
     about (coming (asking (with_pred (knowing (handled_first v) p (Incoming (front_of (v.inbox v.acting)))) p (front_of (v.inbox v.acting))) p 1) p false) (Of p)
-after_stage v p stage.StateTaken = about (asking (handled_first v) p (v.asked p + 1)) (Of p)
+after_stage v p stage.StateTaken = about (asking (handled_for v p) p (v.asked p + 1)) (Of p)
 after_stage v p stage.MemoryTaken = about (coming (handled_first v) p true) (Of p)
 after_stage v p stage.Left = about (knowing v p (gone_to (v.known v.acting p) (v.moves p + 1))) (Of p)
 after_stage v p stage.Restarted = record (rejoins (handled_first v) p) { moves = at_pid v.moves p (v.moves p + 1) }
@@ -397,7 +424,7 @@ view_after v (line.NoMove id) = handled v id
 view_after v (line.Stale id) = handled v id
 view_after v (line.Proto id) = after_proto (handled v id) (v.told id)
 view_after v (line.NoChild p) = v
-view_after v (line.Pinned p) = v
+view_after v line.Away = v
 view_after v (line.NoCall p) = v
 
 -- the processes of the boot file are where they start, and the servers on machine 0
@@ -426,6 +453,7 @@ first_view b =
       moves = λ p. 0;
       asked = λ p. 0;
       come = λ p. false;
+      seat = 0;
       told = λ i. None;
       topic = NothingElse;
     }

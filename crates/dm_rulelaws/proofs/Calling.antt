@@ -35,7 +35,7 @@ others (c ∷ cs) = cs
 none_failed : (cs : List Check) → first_failed cs ≡ None → (first_fails cs ≡ false) × (first_failed (others cs) ≡ None)
 none_failed cs h1 = search arith
 
-neither : (c d : Bool) → (c || d) ≡ false → (c ≡ false) × (d ≡ false)
+pub neither : (c d : Bool) → (c || d) ≡ false → (c ≡ false) × (d ≡ false)
 neither c d h1 = search arith
 
 by_slot : (P : Called → Type 0) (x : PlainProcess) (l : PlainLink) (o : Option ℕ) → ((c : Reply) → P (calls.refused c x)) → ((slot : ℕ) → P (calls.puts_link x l (Some slot))) → P (calls.puts_link x l o)

@@ -1,6 +1,7 @@
 pub mod Names
 pub mod Queued
 pub mod Takes
+pub mod Sized
 pub mod Calling
 pub mod Fits
 pub mod Tables
@@ -13,4 +14,5 @@ pub mod Decided
 pub mod Order
 pub mod Own
 pub mod Goes
+pub mod Sizes
 pub mod RunsAlways

@@ -37,7 +37,7 @@ pub use Rattle.dm_rule.proofs.Moves.Called.{called_way}
 pub use Rattle.dm_rule.proofs.Moves.Lists.{both_lists, both_times, first_off, flip_zero, under_way, without_all, without_at, zero_cases}
 pub use Rattle.dm_rule.proofs.Moves.Sent.{least_of, sent_way}
 pub use Rattle.dm_rule.proofs.Moves.States.{front_kernels, front_one, front_way, not_first}
-pub use Rattle.dm_rule.proofs.Names.{About, Addresses, Again, Alive, Answer, AreStill, AskNone, AskedBy, Bool, Boot, BootImage, BootProcess, CallNumber, Called, Child, Direction, Enclosed, Ended, Ends, Forward, Frozen, Gets, Held, Here}
+pub use Rattle.dm_rule.proofs.Names.{About, Addresses, Again, Alive, Answer, AreStill, AskNone, AskedBy, ToBoard, Bool, Boot, BootImage, BootProcess, CallNumber, Called, Child, Direction, Enclosed, Ended, Ends, Forward, Frozen, Gets, Held, Here}
 pub use Rattle.dm_rule.proofs.Names.{Holder, Inbox, Incoming, IsIn, IsLeft, IsStep, IsStill, IsValid, Known, Label, LandsSo, Leads, Life, LifeGrows, Line, Link, List, Load, Made, Manager, MessageKind, MoveNote, Moves, Moving, MsgId, Name}
 pub use Rattle.dm_rule.proofs.Names.{NamedLink, Next, None, NothingElse, Of, OneKernel, Option, Outcome, Outputs, Owner, Owns, Pair, Part, Pending, PendingKind, Phase, Pid, Place, PlainLink, PlainMessage, PlainProcess, PlainStatus}
 pub use Rattle.dm_rule.proofs.Names.{PlainWhat, Point, Queue, Ready, Receiver, Regs, Replies, Reply, Rests, Routes, Row, Runs, Says, Sender, Sends, ServerSends, Slot, Some, Sort, Sound, Spelled, Spot, Stage, StandsAsBag, StandsNowhere}
@@ -53,8 +53,9 @@ pub use Rattle.dm_rule.proofs.Names.{nat_le, nat_lt, nat_tests, nexts, not, not_
 pub use Rattle.dm_rule.proofs.Names.{pid_eq-same, pid_of, pieces_of, place_known, place_told, plain_kind, plain_link, position_from, preds_of, process_told, processes_are_valid, pulls_piece, puts, queued_for, range_with_len, receiver_in}
 pub use Rattle.dm_rule.proofs.Names.{receiver_of, reception, refl, reg, replicate, reply_code, reply_eq, right_true, ring_at, routed_on, seen, sender_in, sender_of, sends_on, sent_at, served_told, serving_gets, slice_get, slice_set}
 pub use Rattle.dm_rule.proofs.Names.{slots_of, slots_with, sort_of, spelled, standing, start, start-sound, starting_at, stayed, subst, suc, switchboard, sym, take, taken_id, takes_block, takes_chunk, target_of, tells_asker, tells_end}
-pub use Rattle.dm_rule.proofs.Names.{times, to_kernel, to_of, told_back_gets, told_between, told_ended, told_here, told_server, told_step, topic_by, true, unentered, untaken, updated, updated_to, updates, view_after, when, when-is}
+pub use Rattle.dm_rule.proofs.Names.{times, to_kernel, to_of, told_back_gets, told_between, told_ended, told_here, told_step, topic_by, true, unentered, untaken, updated, updated_to, updates, view_after, when, when-is}
 pub use Rattle.dm_rule.proofs.Names.{with_note, with_process, with_sent, without, without_front, without_id, without_message, without_note, zero, ℕ, ⊤, ◌&&◌, ◌*◌, ◌++◌, ◌+◌, ◌-◌, ◌/◌, ◌<◌, ◌==◌, ◌||◌, ◌∙◌, ◌∷◌, ◌≡◌, ◌≢◌, ◌≤◌, ◌⊎◌}
+pub use Rattle.dm_rule.proofs.Names.{Size, has_seat, handled_for, is_made, known_place, migrates_to, ring_with, seated, size_of, takes_last_chunk}
 pub use Rattle.dm_rule.proofs.Once.{one_of}
 pub use Rattle.dm_rule.proofs.Ordered.{context, drop_one, first_not, first_one, put_not, put_one}
 pub use Rattle.dm_rule.proofs.Outcomes.{by_group, by_net, by_outcome, by_parts}
@@ -87,13 +88,13 @@ pub use Rattle.dm_rule.proofs.Trails.Steps.{coming_is, destination_expects, sour
 pub use Rattle.dm_rule.proofs.Turns.{served_keeps}
 pub use Rattle.dm_rule.specs.Addresses.{goes_between}
 pub use Rattle.dm_rule.specs.Good.{IsRun}
-pub use Rattle.dm_rule.specs.Migrating.{hears_here}
+pub use Rattle.dm_rule.specs.Migrating.{board_size, manager_size, names_size, process_size, requests_size}
 pub use Rattle.dm_rule.specs.Phases.{tells_between, tells_onward}
 pub use Rattle.dm_rule.specs.Point.{labels, with_label}
 pub use Rattle.dm_rule.specs.View.{first_told, rejoins, target_in}
 pub use Rattle.dm_rulelaws.specs.Fits.{Each, IsPending, KernelFits, LinkFits, Lives, NoteFits, PendingFits, ProcessFits, SlotFits, WhatFits, awaits, gives_no_right, has_bytes, is_for, kind_eq, move_fits, piece_fits, status_awaits}
 pub use Rattle.dm_rulelaws.specs.Fits.{takes_users}
 pub use Rattle.dm_rulelaws.specs.Found.{Found, has_no_queue, has_nothing_held, is_fixed, machine_of}
-pub use Rattle.dm_rulelaws.specs.KnownStands.{KnownStands, agrees, rings, server_at, turns_here}
+pub use Rattle.dm_rulelaws.specs.KnownStands.{KnownStands, agrees, rings, turns_here}
 pub use Rattle.dm_rulelaws.specs.Laws.{FitsAlways, FoundAlways, GoesOnAlways, KnownAlways, RuleDecides, ShorterBegins}
 pub use Rattle.dm_rulelaws.specs.Order.{LeadsBy, ReceivesInOrder, channel_in}

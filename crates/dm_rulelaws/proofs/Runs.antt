@@ -1,5 +1,5 @@
 -- All that holds wherever the rule leads, migrations included.
-use Rattle.dm_rulelaws.proofs.Names.{◌≡◌, ℕ, ◌≤◌, true, length, None, Some, Pid, MsgId, Boot, ascends, Point, times, Told, Phased, KernelFits, Found, KnownStands}
+use Rattle.dm_rulelaws.proofs.Names.{◌≡◌, ℕ, ◌≤◌, true, false, length, None, Some, Pid, MsgId, Boot, ascends, Point, times, Told, Phased, KernelFits, Found, KnownStands, is_server}
 use Rattle.dm_rulelaws.proofs.Based.Noted.{Away}
 use Rattle.dm_rulelaws.proofs.Based.Queues.{LiveLists}
 use Rattle.dm_rulelaws.proofs.Queued.{IsQueued}
@@ -23,8 +23,8 @@ pub record Based (b : Boot) (pt : Point) : Type 0 where
   pub noted : Away None pt.kernel pt.view
   -- the manager's pending requests stand in the order in which it sent them
   pub pending : ascends 0 pt.kernel.manager.pending pt.kernel.manager.sent ≡ true
-  -- what was never made has never moved
-  pub unmoved : (p : Pid) → pt.kernel.processes p ≡ None → pt.view.moves p ≡ 0
+  -- what was never made, and is no server, has never moved
+  pub unmoved : (p : Pid) → is_server p ≡ false → pt.kernel.processes p ≡ None → pt.view.moves p ≡ 0
 
 -- and where messages stand
 pub record Run (b : Boot) (pt : Point) : Type 0 where

@@ -1,5 +1,5 @@
 -- Each message stands where its receiver is known, if it lives; and nothing waits for a process where it isn't.
-use Rattle.std.specs.Prelude.{◌≡◌, ◌≢◌, ℕ, ◌<◌, ◌≤◌, Bool, true, false, ◌||◌, ◌==◌, is_some, []}
+use Rattle.std.specs.Prelude.{◌≡◌, ◌≢◌, ℕ, ◌<◌, ◌≤◌, Bool, true, false, ◌==◌, is_some, []}
 use Rattle.std.specs.declared.option.Option.TheVariants.{Some}
 use Rattle.dm_link.specs.declared.Pid.{Pid}
 use Rattle.dm_message.specs.declared.MsgId.{MsgId}
@@ -10,7 +10,6 @@ use Rattle.dm_rule.specs.Point.{Point}
 use Rattle.dm_rule.specs.Trails.{is_alive}
 use Rattle.dm_rule.specs.Spots.{Spot, Queue, Held, Inbox, Untaken, standing}
 use Rattle.dm_rule.specs.View.{View, Known, Unknown, Here, Frozen, Incoming, Forward, Told, Target, is_kernels}
-use Rattle.dm_rulelaws.specs.Fits.{is_server}
 
 -- the machine that a message comes to from a spot
 abbrev pub machine_of : Spot → ℕ
@@ -19,9 +18,9 @@ machine_of (Held m p) = m
 machine_of (Inbox m) = m
 machine_of (Untaken a b) = b
 
--- kernels and servers never move
+-- kernels never move
 abbrev pub is_fixed : Pid → Bool
-is_fixed q = (q.num == 0) || is_server q
+is_fixed q = q.num == 0
 
 -- each message stands where its address leads and its receiver is known, if it lives; and addresses and what machines know name
 -- machines that there are
@@ -30,7 +29,7 @@ pub record Found (pt : Point) : Type 0 where
   pub told : (i : MsgId) (z : Spot) → 1 ≤ standing pt.view i z → is_some (pt.view.told i) ≡ true
   -- it stands where its address leads
   pub at_ : (i : MsgId) (z : Spot) → 1 ≤ standing pt.view i z → (pt.addresses (Receiver i)).at ≡ machine_of z
-  -- there its receiver is known, if it lives; a kernel or a server is at home
+  -- there its receiver is known, if it lives, as servers do; a kernel is at home
   pub process : (i : MsgId) (z : Spot) (t : Told) → 1 ≤ standing pt.view i z → pt.view.told i ≡ Some t → is_fixed t.receiver ≡ false → is_alive pt.kernel t.receiver ≡ true → pt.view.known (machine_of z) t.receiver ≢ Unknown
   pub fixed : (i : MsgId) (z : Spot) (t : Told) → 1 ≤ standing pt.view i z → pt.view.told i ≡ Some t → is_fixed t.receiver ≡ true → machine_of z ≡ t.receiver.home
   -- each address, and whatever machines know of others, names a machine that there is

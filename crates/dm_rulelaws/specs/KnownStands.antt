@@ -1,5 +1,5 @@
 -- What the lines say of processes, as the kernel without machines has them.
-use Rattle.std.specs.Prelude.{◌≡◌, ◌≢◌, ℕ, ◌+◌, ◌==◌, Bool, true, false, if◌then◌else◌, List, [], ◌∷◌}
+use Rattle.std.specs.Prelude.{◌≡◌, ◌≢◌, ℕ, ◌+◌, Bool, true, false, if◌then◌else◌, List, [], ◌∷◌}
 use Rattle.std.specs.declared.option.Option.{Option}
 use Rattle.std.specs.declared.option.Option.TheVariants.{None, Some}
 use Rattle.dm_link.specs.declared.Pid.{Pid}
@@ -26,10 +26,6 @@ agrees (view.Incoming from) None = false
 agrees (view.Forward at moves) (Some life) = true
 agrees (view.Forward at moves) None = false
 
--- the servers are on machine 0, and never move
-abbrev pub server_at : ℕ → Known
-server_at m = if m == 0 then view.Here else view.Unknown
-
 -- how often a process stands in a ring
 abbrev pub rings : Pid → List Pid → ℕ
 rings p [] = 0
@@ -39,10 +35,9 @@ abbrev pub turns_here : Bool → Known → ℕ
 turns_here true k = 0
 turns_here false k = if is_here k then 1 else 0
 
--- what each machine knows agrees with the kernel without machines; the home of a process that lives knows it; and a process
--- stands once in the ring of the machine that has it, and in no other ring
+-- what each machine knows agrees with the kernel without machines; the home of a process that lives knows it, and so does that of a
+-- server; and a process stands once in the ring of the machine that has it, and in no other ring, and a server in none
 pub record KnownStands (s : OneKernel) (v : View) : Type 0 where
-  pub server : (m : ℕ) (p : Pid) → is_server p ≡ true → v.known m p ≡ server_at m
   pub agree : (m : ℕ) (p : Pid) → is_server p ≡ false → agrees (v.known m p) (s.processes p) ≡ true
-  pub home : (p : Pid) → is_server p ≡ false → is_alive s p ≡ true → v.known p.home p ≢ view.Unknown
+  pub home : (p : Pid) → is_alive s p ≡ true → v.known p.home p ≢ view.Unknown
   pub ring : (m : ℕ) (p : Pid) → rings p (v.ring m) ≡ turns_here (is_server p) (v.known m p)

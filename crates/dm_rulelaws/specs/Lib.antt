@@ -2,4 +2,5 @@ pub mod Fits
 pub mod KnownStands
 pub mod Found
 pub mod Order
+pub mod Sizes
 pub mod Laws

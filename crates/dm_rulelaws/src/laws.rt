@@ -1,5 +1,6 @@
 //! What holds wherever the rule leads, whoever ran by it.
 ghost use Rattle.dm_rulelaws.specs.Order.{ReceivesInOrder};
+ghost use Rattle.dm_rulelaws.specs.Sizes.{SizesAlways};
 ghost use Rattle.dm_rulelaws.specs.Laws.{FitsAlways, FoundAlways, GoesOnAlways, KnownAlways, RuleDecides, ShorterBegins};
 
 /// Wherever the rule leads from a boot file, each directive has its group, migrations included.
@@ -14,7 +15,7 @@ pub fn fits_always()
 {}
 
 /// Wherever the rule leads from a boot file, what each machine knows of processes agrees with the kernel without machines: what it
-/// has, holds back or expects is alive. The home of a process that lives knows it, and a process stands once in the ring of the machine
+/// has, holds back or expects is alive. The home of a process that lives knows it, as that of a server does, and a process stands once in the ring of the machine
 /// that has it, and in no other ring.
 pub fn known_always()
     ensures { KnownAlways }
@@ -24,6 +25,12 @@ pub fn known_always()
 /// its receiver is known, if it lives: it is here, leaves, comes, or a forwarding address leads on.
 pub fn found_always()
     ensures { FoundAlways }
+{}
+
+/// Wherever the rule leads from a boot file, as long as no pair of machines has counted more messages than it may at the most, the
+/// state of a server has fewer than 2^31 bytes: so it can always be carried.
+pub fn sizes_always()
+    ensures { SizesAlways }
 {}
 
 /// The rule decides what is printed: from one place, with the same left to do, two runs of as many groups say the same and

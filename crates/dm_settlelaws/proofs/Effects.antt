@@ -1,16 +1,17 @@
 -- What each line does to inboxes, and to what was routed and not taken.
 use Rattle.dm_settlelaws.proofs.Names.{◌≡◌, ℕ, ◌+◌, ◌<◌, ◌≤◌, ◌==◌, ◌&&◌, Bool, true, false, not, filter, List, [], ◌∷◌, ◌++◌, drop, refl, ap, ◌∙◌, inl, inr, arith, ⊤, if◌then◌else◌, Option, None, Some, cases_Bool, eqb_tells, nat_tests}
 use Rattle.dm_settlelaws.proofs.Names.{Pid, MsgId, MessageKind, Label, Step, Line, Stage, sum_below, at_machine, at_pair, without_front, untaken, About, NothingElse, Target, Pair, Told, View, asks_on, dropped_for, follows_by, forwarded_for}
-use Rattle.dm_settlelaws.proofs.Names.{handled, held_for, ends_by, queued_for, receiver_of, served_told, view_after, pair_same, touches, weight, weight_of, weight_to, at_machine_at, sort_of}
+use Rattle.dm_settlelaws.proofs.Names.{handled, held_for, ends_by, queued_for, receiver_of, served_told, view_after, pair_same, touches, weight, weight_of, weight_to, at_machine_at, sort_of, is_server}
 use Rattle.dm_rule.specs.View as view
 use Rattle.dm_settlelaws.proofs.Weights.{first_weight, front_taken, front_weight, spike, spike_here, spike_off, sum_le, sum_moves, weight-append}
 
--- what a line does to the acting machine's inbox: nothing, its front goes, if it is this message, or whatever it is, or whatever it
--- is unless it has gone already, or it goes and what was held for a process comes before the others
+-- what a line does to the acting machine's inbox: nothing, its front goes, if it is this message, or whatever it is, or unless a server
+-- has come, or whatever it is unless it has gone already, or it goes and what was held for a process comes before the others
 pub data Effect : Type 0 where
   Stays : Effect
   Front : (id : MsgId) → Effect
   First : Effect
+  Chunk : (process : Pid) → Effect
   Sets : Effect
   Returns : (process : Pid) → Effect
 
@@ -28,6 +29,7 @@ abbrev pub stage_effect : Pid → Stage → Effect
 stage_effect p Stage.Frozen = Sets
 stage_effect p Stage.Asked = Stays
 stage_effect p Stage.Left = Stays
+stage_effect p Stage.StateTaken = Chunk p
 stage_effect p Stage.Restarted = Returns p
 stage_effect p _ = First
 
@@ -66,6 +68,7 @@ abbrev pub inbox_by : View → Effect → ℕ → List MsgId
 inbox_by v Stays = v.inbox
 inbox_by v (Front id) = at_machine v.inbox v.acting (without_front id (v.inbox v.acting))
 inbox_by v First = first_gone v
+inbox_by v (Chunk p) = if is_server p then v.inbox else first_gone v
 inbox_by v Sets = sets_inbox v v.topic
 inbox_by v (Returns p) = at_machine (first_gone v) v.acting (v.held v.acting p ++ first_gone v v.acting)
 
@@ -154,6 +157,7 @@ back_in v _ = []
 abbrev pub takes_front : MsgId → Effect → Type 0
 takes_front i Stays = ⊥
 takes_front i (Front id) = id ≡ i
+takes_front i (Chunk p) = is_server p ≡ false
 takes_front i _ = ⊤
 
 -- one machine's inbox is set
@@ -179,12 +183,17 @@ sets_less : (f : MsgId → ℕ) (v : View) (a : About) (m : ℕ) → weight f (s
 sets_less f v (Target k) m = omega arith
 sets_less f v _ m = first_less f v m
 
+chunk_less : (f : MsgId → ℕ) (v : View) (server : Bool) (m : ℕ) → weight f ((if server then v.inbox else first_gone v) m) ≤ weight f (v.inbox m) + spike v.acting 0 m
+chunk_less f v true m = omega arith
+chunk_less f v false m = first_less f v m
+
 -- an inbox gains no more than what comes back
 pub effect_weight : (f : MsgId → ℕ) (v : View) (e : Effect) (m : ℕ) → weight f (inbox_by v e m) ≤ weight f (v.inbox m) + spike v.acting (weight f (back_in v e)) m
 effect_weight f v Stays m = omega arith
 effect_weight f v (Front id) m =
     let h = set_weight f v.inbox v.acting (without_front id (v.inbox v.acting)) 0 0 m (let g = front_weight f id (v.inbox v.acting) in omega (arith, g)) in omega (arith, h)
 effect_weight f v First m = first_less f v m
+effect_weight f v (Chunk p) m = chunk_less f v (is_server p) m
 effect_weight f v Sets m = sets_less f v v.topic m
 effect_weight f v (Returns p) m =
     let ys = v.held v.acting p in
@@ -212,6 +221,10 @@ effect_takes f v (Front id) i is m front topic takes =
     let g = front_taken f i is in
     set_weight f v.inbox v.acting (without_front id (v.inbox v.acting)) (f i) 0 m (omega (arith, all, less, g))
 effect_takes f v First i is m front topic takes = first_loses f v i is m front
+effect_takes f v (Chunk p) i is m front topic takes =
+    let same : weight f ((if is_server p then v.inbox else first_gone v) m) ≡ weight f (first_gone v m) = ap (λ (c : Bool). weight f ((if c then v.inbox else first_gone v) m)) takes in
+    let h = first_loses f v i is m front in
+    omega (arith, same, h)
 effect_takes f v Sets i is m front topic takes =
     let same : weight f (sets_inbox v v.topic m) ≡ weight f (first_gone v m) = ap (λ (a : About). weight f (sets_inbox v a m)) topic in
     let h = first_loses f v i is m front in

@@ -3,7 +3,7 @@ use Rattle.dm_settlelaws.proofs.Names.{◌≡◌, ℕ, ◌+◌, ◌<◌, ◌≤�
 use Rattle.dm_settlelaws.proofs.Names.{nat_tests, Pid, MsgId, MessageKind, plain_kind, Line, Load, at_pair, Receiver, Part, Says, Routes, Again, Owns, Transmits, Spelled, goes_out, packet_line, puts, spelled, Point, after, Pair, View}
 use Rattle.dm_settlelaws.proofs.Names.{own_id, routed_on, seen, OneKernel, hushed, is_put, set_is, set_other, set_same, Onward, bind-is, one_view, onward, pair_same, says_view, touches, transmits_view, two_views, weight_of}
 use Rattle.dm_settlelaws.proofs.Effects.{Effect, Returns, back_in, calm_weight, comes_in, effect}
-use Rattle.dm_settlelaws.proofs.Falls.Handles.{AllCalm, IsCalm, is_back}
+use Rattle.dm_settlelaws.proofs.Falls.Handles.{AllCalm, IsCalm, has_route, is_back, is_route}
 use Rattle.dm_settlelaws.proofs.Rests.RestsPairs.{repeated}
 
 pub record Grows (f g : ℕ → ℕ → Pair) : Type 0 where
@@ -92,15 +92,6 @@ puts_lead pt next b id k q ls is leads =
     let f : puts pt.view b id k q ≡ ls = cc in puts_by pt next b id k q (pt.view.acting == b) (goes_out (pt.view.pair pt.view.acting b)) (ap (after pt) f ∙ leads)
 
 -- calm parts
-abbrev pub is_route : Part → Bool
-is_route (Says l) = false
-is_route (Transmits a b l) = false
-is_route _ = true
-
-abbrev pub has_route : List Part → Bool
-has_route [] = false
-has_route (p ∷ ps) = is_route p || has_route ps
-
 -- parts that take nothing: lines that change no pair, puts, and packets
 abbrev pub IsLight : Part → Type 0
 IsLight (Says l) = touches l ≡ false

@@ -51,12 +51,12 @@ pub use Rattle.dm_movelaws.proofs.Names.{StandsOutside, StandsRight, Step, Stood
 pub use Rattle.dm_movelaws.proofs.Names.{arrives_net, asked_by, at_machine, at_machine_at, at_pair, awaits, based_always, behind, behind_count, bind, bind-is, block_line, buried, buries, calls_off, calls_off_fit, cases_Bool, child_lines}
 pub use Rattle.dm_movelaws.proofs.Names.{chunks_of, count, doing_of, drop, drop-nil, each_process, end_lines, ends_by, ends_with, eq_is, eq_self, false, false≢true, filter, first_number, first_point, first_view, first_with}
 pub use Rattle.dm_movelaws.proofs.Names.{forwarded_acting, forwarded_for, forwards_on, goes_out, goes_round, group_is, group_of, handled, handles, hears, held_for, holding_lines, home_with, homes_with, hushed, id_eq, id_eq-is, id_eq-same}
-pub use Rattle.dm_movelaws.proofs.Names.{id_of, if◌then◌else◌, in_bag, inbox_lines, inl, inr, is_alive, is_between, is_fixed, is_kernels, is_moving, is_put, is_server, is_some, is_stale, is_told_back, joined_below, kernel_hears}
+pub use Rattle.dm_movelaws.proofs.Names.{Size, id_of, if◌then◌else◌, in_bag, inbox_lines, inl, inr, is_alive, is_between, is_fixed, is_kernels, is_moving, is_put, is_server, is_some, is_stale, is_told_back, joined_below, kernel_hears}
 pub use Rattle.dm_movelaws.proofs.Names.{landing_parts, leads, leads_on, leaves, leaves_for, length, line_view, lines_of, link_lines, list_line, manager, map, memory_lines, migrates, migrates_fit, more_front, moved, name_lines, nat_le}
-pub use Rattle.dm_movelaws.proofs.Names.{nat_lt, nat_tests, not, not_server, not_true, numbers_from, onward, or, outcome, own_id, packet_line, pair_same, pending_lines, pid_eq, pid_eq-is, pid_of, pieces_of, place_told, plain_kind, preds_of}
+pub use Rattle.dm_movelaws.proofs.Names.{size_of, nat_lt, nat_tests, not, not_server, not_true, numbers_from, onward, or, outcome, own_id, packet_line, pair_same, pending_lines, pid_eq, pid_eq-is, pid_of, pieces_of, place_told, plain_kind, preds_of}
 pub use Rattle.dm_movelaws.proofs.Names.{process_lines, process_told, puts, queue_at, queue_lines, queued_acting, receiver_of, refl, right_true, run_always, seen, sends_on, served_told, server_lines, set_is, set_other, slice_get, slot_line}
 pub use Rattle.dm_movelaws.proofs.Names.{sort_of, spelled, standing, standing_of, state_lines, stood, stood_at, stream_lines, subst, suc, switchboard, sym, take, taken_id, taken_pair, takes_block, takes_chunk, target_of, tells_asker}
-pub use Rattle.dm_movelaws.proofs.Names.{tells_end, times, times-append, to_kernel, to_of, told_ended, told_here, told_server, told_step, touches, trimmed, true, turns_fit, untaken, view_after, without_front, zero, ℕ, ⊤, ◌&&◌, ◌++◌, ◌+◌}
+pub use Rattle.dm_movelaws.proofs.Names.{tells_end, times, times-append, to_kernel, to_of, told_ended, told_here, told_step, touches, trimmed, true, turns_fit, untaken, view_after, without_front, zero, ℕ, ⊤, ◌&&◌, ◌++◌, ◌+◌}
 pub use Rattle.dm_movelaws.proofs.Names.{◌-◌, ◌/◌, ◌<◌, ◌==◌, ◌||◌, ◌∙◌, ◌∷◌, ◌≡◌, ◌≢◌, ◌≤◌, ◌⊎◌}
 pub use Rattle.dm_movelaws.proofs.Pending.Always.{pending_has_one}
 pub use Rattle.dm_movelaws.proofs.Promise.Finds.{leads_append}

@@ -3,14 +3,10 @@ use Rattle.dm_settlelaws.proofs.Names.{◌≡◌, ◌⊎◌, ℕ, zero, suc, Boo
 use Rattle.dm_settlelaws.proofs.Names.{begin_pass, in_pass, is_over, next_delivery, next_directive, next_pass, or, settles, takes_turn, next_step, undelivered, Leads, Point, first_point, has_mail, at_rest, seen_at, IsAtRest, serves_some}
 use Rattle.dm_settlelaws.proofs.Names.{first_runnable, passes_rest, rest_passes, RestsAlways, IsRestStep, RestGoes, passes_left}
 use Rattle.dm_settlelaws.proofs.PassHas.{Begins, begins_by, finds_nothing, no_mail, not_over_midst, over_midst, pass_found, TurnsOf}
+use Rattle.dm_rulelaws.proofs.Calling.{neither}
 
 rest_turns : (n : ℕ) (pt : Point) (p : Pass) (k : ℕ) → p ≡ Pass.Rest k → TurnsOf (IsRestStep pt) (takes_turn p (seen_at n pt))
 rest_turns n pt p k is m e = ap (λ (q : Pass). takes_turn q (seen_at n pt) m) (sym is) ∙ e
-
--- all is at rest where it finds nothing
-or_false : (a b : Bool) → (a || b) ≡ false → (a ≡ false) × (b ≡ false)
-or_false true b e = absurd (false≢true (sym e))
-or_false false b e = (refl, e)
 
 none_served : {X : Type 0} (o : Option X) → is_some o ≡ false → o ≡ None
 none_served None e = refl
@@ -20,8 +16,8 @@ nothing_rests : (b : Boot) (es : List Step) (pt : Point) (k : ℕ) (ds : List Di
 nothing_rests b es pt k ds n leads e =
     let h = finds_nothing b es pt (Pass.Rest k) ds n leads e in
     record {
-      quiet = record { taken = h.taken; acked = h.acked; inbox = λ m l. no_mail (pt.view.inbox m) (or_false (has_mail pt.view m) (serves_some pt m) (h.turns m l)).0 };
-      served = λ m l. none_served (first_runnable pt.kernel (pt.view.queue m) (pt.view.ring m)) (or_false (has_mail pt.view m) (serves_some pt m) (h.turns m l)).1;
+      quiet = record { taken = h.taken; acked = h.acked; inbox = λ m l. no_mail (pt.view.inbox m) (neither (has_mail pt.view m) (serves_some pt m) (h.turns m l)).0 };
+      served = λ m l. none_served (first_runnable pt.kernel (pt.view.queue m) (pt.view.ring m)) (neither (has_mail pt.view m) (serves_some pt m) (h.turns m l)).1;
     }
 
 pub rest_begins : (b : Boot) (es : List Step) (pt : Point) (k : ℕ) (ds : List Directive) (n : ℕ) → Leads b (first_point b) es pt → (IsAtRest n pt → ⊥) → Begins (IsRestStep pt) n pt (Pass.Rest k) ds
@@ -32,7 +28,7 @@ pub not_at_rest : (n : ℕ) (pt : Point) (r : Bool) → at_rest n (seen_at n pt)
 not_at_rest n pt true e h = absurd (h (passes_rest n pt e))
 not_at_rest n pt false e h = e
 
-none_if : (over : Bool) → ◌≡◌ {A = Option Next} (if over then None else None) None
+pub none_if : (over : Bool) → ◌≡◌ {A = Option Next} (if over then None else None) None
 none_if true = refl
 none_if false = refl
 

@@ -2,6 +2,7 @@
 use Rattle.dm_settlelaws.proofs.Names.{◌≡◌, ◌≢◌, ℕ, zero, suc, ◌+◌, ◌*◌, ◌<◌, ◌≤◌, ◌==◌, Bool, true, false, List, [], ◌∷◌, ◌++◌, length, refl, ap, subst, inl, inr, arith, suc-mul, if◌then◌else◌, eqb_tells, leb_tells, MsgId, id_eq}
 use Rattle.dm_settlelaws.proofs.Names.{id_eq-same, sum_below, without_front, times, one_each, weight, more_front, drop}
 pub use Rattle.dm_rule.proofs.Phases.Leaves.{first_of as first_times}
+pub use Rattle.dm_rulelaws.proofs.Sizes.Servers.{sum_both}
 
 pub weight-append : (f : MsgId → ℕ) (xs ys : List MsgId) → weight f (xs ++ ys) ≡ weight f xs + weight f ys
 weight-append f [] ys = omega arith
@@ -56,10 +57,6 @@ sum_le f g (suc n) h = let i = sum_le f g n (λ k l. h k (omega (arith, l))) in 
 pub sum_same : (f g : ℕ → ℕ) (n : ℕ) → ((k : ℕ) → k < n → f k ≡ g k) → sum_below f n ≡ sum_below g n
 sum_same f g zero h = refl
 sum_same f g (suc n) h = let i = sum_same f g n (λ k l. h k (omega (arith, l))) in let j = h n (omega arith) in omega (arith, i, j)
-
-pub sum_both : (f g : ℕ → ℕ) (n : ℕ) → sum_below (λ k. f k + g k) n ≡ sum_below f n + sum_below g n
-sum_both f g zero = refl
-sum_both f g (suc n) = let h = sum_both f g n in omega (arith, h)
 
 pub sum_most : (f : ℕ → ℕ) (n x : ℕ) → ((k : ℕ) → k < n → f k ≤ x) → sum_below f n ≤ n * x
 sum_most f zero x h = omega arith

@@ -84,7 +84,7 @@ ends_rested [] = false
 ends_rested (d ∷ []) = is_rest_directive d
 ends_rested (d ∷ e ∷ ds) = ends_rested (e ∷ ds)
 
--- a line of the end that says of nothing that it is on its way, and of no process that it leaves or comes
+-- a line of the end that says of nothing that it is on its way, and of no process or server that it leaves or comes
 abbrev pub stands_here : Standing → Bool
 stands_here standing.Here = true
 stands_here s = false
@@ -97,6 +97,7 @@ is_at_rest (end.Registers p r pc) = true
 is_at_rest (end.Memory p k bytes) = true
 is_at_rest (end.Link p slot l) = true
 is_at_rest (end.Server p sent) = true
+is_at_rest (end.Place p m s) = stands_here s
 is_at_rest (end.Name name l) = true
 is_at_rest (end.Child n p m) = true
 is_at_rest (end.Pending i) = true

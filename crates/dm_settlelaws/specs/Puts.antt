@@ -1,5 +1,5 @@
 -- How much is put where no process moves, and only user messages for processes and updates are on their way.
-use Rattle.std.specs.Prelude.{◌≡◌, ℕ, ◌≤◌, Bool, true, false, not, List, [], ◌∷◌, ◌++◌}
+use Rattle.std.specs.Prelude.{◌≡◌, ℕ, ◌≤◌, Bool, true, false, not, List, [], ◌∷◌, ◌++◌, ◌||◌}
 use Rattle.std.specs.declared.option.Option.{Option}
 use Rattle.std.specs.declared.option.Option.TheVariants.{None, Some}
 use Rattle.dm_link.specs.declared.Pid.{Pid}
@@ -19,12 +19,13 @@ use Rattle.dm_rule.specs.Rule.{group_of}
 use Rattle.dm_rule.specs.Spots.{Spot, Queue, Held, Inbox, Untaken, standing}
 use Rattle.dm_rule.specs.View.{Told, View}
 use Rattle.dm_rulelaws.specs.Found.{is_fixed}
+use Rattle.dm_rule.specs.View.{is_server}
 use Rattle.dm_movelaws.specs.AtRest.{is_moving}
 use Rattle.dm_settlelaws.specs.Passes.{IsSettleStep}
 
 -- a user message for a process, no kernel and no server, or an update
 abbrev pub is_light_sort : Sort → Pid → Bool
-is_light_sort sort.Letter q = not (is_fixed q)
+is_light_sort sort.Letter q = not (is_fixed q || is_server q)
 is_light_sort sort.Notice q = true
 is_light_sort s q = false
 

@@ -63,6 +63,7 @@ is_still (end.Registers p r pc) = true
 is_still (end.Memory p k bytes) = true
 is_still (end.Link p slot l) = true
 is_still (end.Server p sent) = true
+is_still (end.Place p m s) = stands_here s
 is_still (end.Name name l) = true
 is_still (end.Child n p m) = true
 is_still (end.Pending i) = false

@@ -12,6 +12,8 @@ use Rattle.dm_rulelaws.proofs.Calling.{by_call}
 use Rattle.dm_rulelaws.proofs.Fits.Rises.{both, slot_link}
 use Rattle.dm_sides.specs.Sides.{Sides, side_of, IsOn, LinkKeeps, Keeping, MaybeKeeping, AreaKeeps, MessageKeeps, Keeps}
 use Rattle.dm_sides.proofs.Further.{Holds, alive_there, holds_of}
+use Rattle.dm_rulelaws.proofs.Found.Real.{has_some}
+use Rattle.dm_rulelaws.proofs.Fits.Rises.{right_is}
 
 -- lists of slots
 pub set_each : {X : Type 0} (P : X → Type 0) (xs : List X) (n : ℕ) (x : X) → P x → Each P xs → Each P (slice_set xs n x)
@@ -54,14 +56,6 @@ on_of s k i to code off (inr (q, is, on)) =
 pub keeps_to : (s : OneKernel) (k : Sides) (i : ℕ) (to : Pid) (code : ℕ) → pid_eq to manager ≡ false → IsOn s k i to → LinkKeeps s k i to code
 keeps_to s k i to code off on = inr (to, ap (λ (c : Bool). if c then child_numbered s.manager.children code else Some to) off, on)
 
--- a link with a right leads to a process
-right_is : (ps : Lives) (l : PlainLink) (dir : Direction) → calls.lacks_right dir l.area ≡ false → LinkFits ps l → has_bytes (l.area.base + l.area.len) (ps l.to) ≡ true
-right_is ps l dir h1 h2 = search (arith, l.to, l.area.read, l.area.write, l.area.base, l.area.len)
-
-some_of : (n : ℕ) (o : Option Life) → has_bytes n o ≡ true → is_some o ≡ true
-some_of n None e = e
-some_of n (Some life) e = refl
-
 pub not_manager : (s : OneKernel) (p : Pid) → is_some (s.processes p) ≡ true → Made s → pid_eq p manager ≡ false
 not_manager s p there h = let k = h.least p there in grind (arith, nat_tests)
 
@@ -95,7 +89,7 @@ call_keeps s k i p x n made fits off on h =
       waits = record { links = h.links; area = tt };
       moves = λ l dir is right lies off_.
           (let bytes = right_is s.processes l dir right (slot_link s.processes x.links (reg x.regs 1) l is fits) in
-          let apart = not_manager s l.to (some_of (l.area.base + l.area.len) (s.processes l.to) bytes) made in
+          let apart = not_manager s l.to (has_some (l.area.base + l.area.len) (s.processes l.to) bytes) made in
           requests_keep s k i p x dir l.to (l.area.base + reg x.regs 3) (reg x.regs 4) (reg x.regs 5) h.links on (on_of s k i l.to l.code apart (keeps l is)));
       ends = λ y. tt;
     })

@@ -9,6 +9,7 @@ use Rattle.dm_movelaws.proofs.Open.Stays.{Lies, First, Later, lies, none_there}
 use Rattle.dm_movelaws.proofs.Ends.Parts.{Extends}
 use Rattle.dm_movelaws.proofs.Ends.Groups.{unmarked_answer}
 use Rattle.dm_movelaws.proofs.Asked.Following.{Row, Plain, Ends, IsHere, Leaves, AllUnmarked, EndLine, outcome_row, plain_notes, ends_notes, here_notes, here_gone, leaves_notes}
+use Rattle.dm_movelaws.proofs.At.RestPairs.{within_run}
 
 -- lines that answer no request
 abbrev Unsaid : Line → Type 0
@@ -149,7 +150,7 @@ run_causes : (b : Boot) (es : List Step) (ls : List Line) (pt end : Point) → I
 run_causes b [] ls pt end valid (none, at) h sources told = search (arith, none_there)
 run_causes b (d ∷ ds) ls pt end valid (w, rest, fit, is, split, more) h sources told =
     let next : Both b w.point = both_group run_group b pt d w valid fit is h in
-    let acts = group_acts (length b.machines) b pt d w (step_for b pt d h fit) is sources in
+    let acts = group_acts (length b.machines) b pt d w (step_for b pt d h fit) (within_run b pt h.run) is sources in
     let r = run_causes b ds rest w.point end valid more next acts.sources (group_told b pt d w h.run acts.grows told is) in
     record {
       grows = λ i t e. r.grows i t (acts.grows i t e);

@@ -119,6 +119,7 @@ hears_row b o m id q ps = by_hears (Row o (Step.Turn m)) b o m id q ps (λ t is.
     state = Plain (refl, (tt, tt));
     next_chunk = Plain (refl, (tt, tt));
     last_chunk = Plain (refl, (tt, tt));
+    server_chunk = λ server. Plain (refl, (refl, (tt, tt)));
     memory = Plain (refl, (tt, tt));
     next_block = Plain (refl, (tt, tt));
     last_block = Plain (refl, (tt, tt));

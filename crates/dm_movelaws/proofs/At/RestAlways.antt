@@ -2,9 +2,10 @@
 use Rattle.dm_movelaws.proofs.Names.{◌≡◌, ◌≢◌, ℕ, ◌<◌, ◌≤◌, Bool, true, false, List, [], ◌∷◌, drop, refl, ap, ◌∙◌, sym, subst, inl, inr, nat_lt, arith, if◌then◌else◌, drop-length, drop-nil, cases_Bool, false≢true, nat_tests, Option, None}
 use Rattle.dm_movelaws.proofs.Names.{Some, Pid, MsgId, MessageKind, PlainMessage, Boot, Alive, PlainProcess, id_eq-same, Receiver, to_of, Phase, Nowhere, Rests, Over, Moves, is_unknown, is_here, is_away, is_due, IsToken, IsIn, Point}
 use Rattle.dm_movelaws.proofs.Names.{IsQuiet, Spot, Queue, Held, Inbox, Untaken, times, untaken, standing, View, Known, Unknown, Here, is_kernels, stands_right, kernels_fresh, phases_always, AtRest, AllForgotten, IsValid, Leads, Step}
-use Rattle.dm_movelaws.proofs.Names.{first_point, IsAt, IsWaiting, is_moving, has_no_queue, has_nothing_held, Run, run_always, living_phase, told_of, eq_self, own_by, user_kind, MoveNote, machine_of, is_gone, ListsStand}
+use Rattle.dm_movelaws.proofs.Names.{first_point, IsAt, IsWaiting, is_moving, has_no_queue, has_nothing_held, Run, run_always, living_phase, server_phase, told_of, eq_self, own_by, user_kind, MoveNote, machine_of, is_gone, ListsStand}
 use Rattle.dm_movelaws.proofs.At.RestPairs.{Routed, routed_always}
 use Rattle.dm_movelaws.proofs.At.RestQueues.{dropped_always, lists_stand}
+pub use Rattle.dm_rulelaws.proofs.Found.Groups.{here_is as is_here_is}
 
 within_by : (b : Boot) (pt : Point) (i : MsgId) (z : Spot) (o : Option PlainMessage) → pt.kernel.bag i ≡ o → Run b pt → 1 ≤ standing pt.view i z → (pt.addresses (Receiver i)).at < pt.kernel.machines
 within_by b pt i z (Some x) there h least = h.found.within (Receiver i) x.to (ap to_of there)
@@ -79,10 +80,6 @@ waits_at b pt i x (Held m p) h rest there one others = absurd (let f : times i (
 waits_at b pt i x (Inbox m) h rest there one others = absurd (let f : times i (pt.view.inbox m) ≡ 0 = ap (times i) (rest.calm.inbox m) in omega (arith, one, f))
 waits_at b pt i x (Untaken c d) h rest there one others = absurd (let f : times i (untaken (pt.view.pair c d)) ≡ 0 = ap (times i) (rest.calm.untaken c d) in omega (arith, one, f))
 
--- where a living process is
-pub is_here_is : (k : Known) → is_here k ≡ true → k ≡ Here
-is_here_is k e = grind (arith, nat_tests)
-
 pub is_unknown_is : (k : Known) → is_unknown k ≡ true → k ≡ Unknown
 is_unknown_is k e = grind (arith, nat_tests)
 
@@ -125,6 +122,7 @@ at_rest_by b es pt valid leads rest forgotten =
     let h = (run_always b es pt valid leads).run in
     record {
       lives = λ p x alive. let (phase, is, due) = phases_always b es pt p valid leads in lives_at b pt p x phase h rest.calm alive is due;
+      servers = λ p server. let (phase, is, due) = phases_always b es pt p valid leads in phase_at pt.view p phase rest.calm (server_phase pt p phase h.based.phased server is) is due;
       forgotten = forgotten;
       still = rest.still;
       held = rest.held;

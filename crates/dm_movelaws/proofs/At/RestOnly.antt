@@ -1,8 +1,9 @@
 -- Where a process has ended nothing comes to its queue: each group keeps it.
 use Rattle.dm_movelaws.proofs.Names.{◌≡◌, ℕ, ◌+◌, Bool, true, false, List, [], ◌∷◌, refl, ap, ◌∙◌, sym, false≢true, Option, None, Some, Pid, MsgId, MessageKind, plain_kind, Label, Step, Line, Stage, Part, Routes, Spelled, spelled}
 use Rattle.dm_movelaws.proofs.Names.{Point, at_record, View, Told, Known, Unknown, Here, Why, pid_eq-is, view_after, handled, receiver_of, IsNetLine, ◌++◌, PlainMessage, Boot, manager, Addresses, forwards_on, sends_on, is_kill, Sane, by_hears}
-use Rattle.dm_movelaws.proofs.Names.{by_round, by_handles, by_forwards, nat_tests, arith, aim, sets, Frozen, subst, Life, OneKernel, after_step, is_away, kernel_after, label_of, ended_away, is_alive, is_server, is_some, made_free, server_fixed, ◌||◌, cases_Bool, inl, inr, set_all, About, Of, map, to_kernel}
+use Rattle.dm_movelaws.proofs.Names.{by_round, by_handles, by_forwards, nat_tests, arith, aim, sets, Frozen, subst, Life, OneKernel, after_step, is_away, kernel_after, label_of, ended_away, is_alive, is_server, is_some, ◌||◌, cases_Bool, inl, inr, set_all, About, Of, map, to_kernel}
 use Rattle.dm_movelaws.proofs.Names.{group_of, without_id, without_front, Incoming, served_told, front_of, gone_to, Phased, KnownStands, group_keeps, Loud, keeps_by, killed_or, life_sort, step_alike, step_creates, pid_eq}
+use Rattle.dm_rulelaws.proofs.Based.Rows.{made_server}
 use Rattle.dm_rule.specs.View as view
 use Rattle.dm_rule.specs.Rule as rule
 use Rattle.dm_rule.specs.Burying as bury
@@ -21,6 +22,7 @@ pub record Emptied (before : Pid → Bool) (s : OneKernel) (v : View) : Type 0 w
   pub away : (n : ℕ) (q : Pid) → before q ≡ true → is_away (v.known n q) ≡ true
   pub queue : (n : ℕ) (q : Pid) → before q ≡ true → v.queue n q ≡ []
   pub dead : (q : Pid) → before q ≡ true → dead_in s q ≡ true
+  pub free : (q : Pid) → before q ≡ true → is_server q ≡ false
 
 abbrev Dies : OneKernel → OneKernel → Type 0
 Dies s t = (q : Pid) → dead_in s q ≡ true → dead_in t q ≡ true
@@ -37,11 +39,19 @@ alive_off : (T : Type 0) (o : Option Life) → life_sort o ≡ Some true → is_
 alive_off T (Some (Life.Ended y)) e f = cc
 alive_off T _ e f = absurd (false≢true f)
 
+dead_life : (o : Option Life) → is_dead o ≡ true → is_some (kernel.alive o) ≡ false
+dead_life (Some (Life.Ended y)) e = refl
+dead_life _ e = absurd (false≢true e)
+
+dead_off : (T : Type 0) (s : OneKernel) (p : Pid) → is_server p ≡ false → is_alive s p ≡ true → dead_in s p ≡ true → T
+dead_off T s p free lives dead = absurd (false≢true (sym (ap (λ (c : Bool). c || is_some (kernel.alive (s.processes p))) free ∙ dead_life (s.processes p) dead) ∙ lives))
+
 as_ : (before : Pid → Bool) (s t : OneKernel) (v w : View) → Dies s t → w.known ≡ v.known → w.queue ≡ v.queue → Emptied before s v → Emptied before t w
 as_ before s t v w dies known queue h = record {
   away = λ n q e. ap (λ (f : ℕ → Pid → Known). is_away (f n q)) known ∙ h.away n q e;
   queue = λ n q e. ap (λ (f : ℕ → Pid → List MsgId). f n q) queue ∙ h.queue n q e;
   dead = λ q e. dies q (h.dead q e);
+  free = h.free;
 }
 
 learns : (before : Pid → Bool) (s t : OneKernel) (v w : View) (p : Pid) (k : Known) → Dies s t → w.known ≡ at_record v.known v.acting p k → w.queue ≡ v.queue → (before p ≡ true → is_away k ≡ true) → Emptied before s v → Emptied before t w
@@ -49,6 +59,7 @@ learns before s t v w p k dies known queue new h = record {
   away = λ n q e. ap (λ (f : ℕ → Pid → Known). is_away (f n q)) known ∙ set_all (λ m r x. before r ≡ true → is_away x ≡ true) v.known v.acting p k new (λ m r off. h.away m r) n q e;
   queue = λ n q e. ap (λ (f : ℕ → Pid → List MsgId). f n q) queue ∙ h.queue n q e;
   dead = λ q e. dies q (h.dead q e);
+  free = h.free;
 }
 
 queues : (before : Pid → Bool) (s t : OneKernel) (v w : View) (p : Pid) (xs : List MsgId) → Dies s t → w.known ≡ v.known → w.queue ≡ at_record v.queue v.acting p xs → (before p ≡ true → xs ≡ []) → Emptied before s v → Emptied before t w
@@ -56,6 +67,7 @@ queues before s t v w p xs dies known queue new h = record {
   away = λ n q e. ap (λ (f : ℕ → Pid → Known). is_away (f n q)) known ∙ h.away n q e;
   queue = λ n q e. ap (λ (f : ℕ → Pid → List MsgId). f n q) queue ∙ set_all (λ m r ys. before r ≡ true → ys ≡ []) v.queue v.acting p xs new (λ m r off. h.queue m r) n q e;
   dead = λ q e. dies q (h.dead q e);
+  free = h.free;
 }
 
 same : (s : OneKernel) → Dies s s
@@ -98,8 +110,8 @@ buried before s v id (Some t) h = forgotten before s v id t.about h
 loud : (before : Pid → Bool) → Loud (λ pt. Emptied before pt.kernel pt.view)
 loud before = record {
   rides = record {
-    put = λ pt a b i k q h. record { away = h.away; queue = h.queue; dead = h.dead };
-    packet = λ pt a b k l h. record { away = h.away; queue = h.queue; dead = h.dead };
+    put = λ pt a b i k q h. record { away = h.away; queue = h.queue; dead = h.dead; free = h.free };
+    packet = λ pt a b k l h. record { away = h.away; queue = h.queue; dead = h.dead; free = h.free };
   };
   quiet = λ pt w t l e s told alike sane is h. subst (Emptied before t) (sym e) (as_ before pt.kernel t pt.view w (dies_by pt t (label_of l) sane is) s.known s.queue h);
   ran = λ pt t p k here alike sane is h. as_ before pt.kernel t pt.view (view_after pt.view (Line.Label (Label.Ran p k))) (dies_label pt t (Label.Ran p k) sane is) refl refl h;
@@ -120,13 +132,13 @@ loud before = record {
       learns before pt.kernel pt.kernel pt.view (view.after_stage pt.view p Stage.Frozen) p (Frozen (aim pt.view pt.view.topic)) (same pt.kernel) set.known set.queue (λ e. there_off (false ≡ true) before pt.kernel pt.view p Here here refl h e) h;
   accepted = λ pt p lives away h.
       learns before pt.kernel pt.kernel pt.view (view.after_stage pt.view p Stage.Accepted) p (Incoming (front_of (pt.view.inbox pt.view.acting))) (same pt.kernel) refl refl
-      (λ e. absurd (false≢true (sym (ap is_dead lives.alive) ∙ h.dead p e))) h;
+      (λ e. dead_off (is_away (Incoming (front_of (pt.view.inbox pt.view.acting))) ≡ true) pt.kernel p (h.free p e) lives (h.dead p e)) h;
   left = λ pt p leaves h.
       learns before pt.kernel pt.kernel pt.view (view.after_stage pt.view p Stage.Left) p (gone_to (pt.view.known pt.view.acting p) (pt.view.moves p + 1)) (same pt.kernel) refl refl
       (λ e. there_off (is_away (gone_to (pt.view.known pt.view.acting p) (pt.view.moves p + 1)) ≡ true) before pt.kernel pt.view p (Frozen leaves.to) leaves.frozen refl h e) h;
   restarted = λ pt p lives off h.
-      learns before pt.kernel pt.kernel pt.view (view.after_stage pt.view p Stage.Restarted) p Here (same pt.kernel) refl refl (λ e. absurd (false≢true (sym (ap is_dead lives.alive) ∙ h.dead p e))) h;
-  stays_ = λ pt p lives off h. learns before pt.kernel pt.kernel pt.view (view_after pt.view (Line.Stays p)) p Here (same pt.kernel) refl refl (λ e. absurd (false≢true (sym (ap is_dead lives.alive) ∙ h.dead p e))) h;
+      learns before pt.kernel pt.kernel pt.view (view.after_stage pt.view p Stage.Restarted) p Here (same pt.kernel) refl refl (λ e. dead_off (is_away Here ≡ true) pt.kernel p (h.free p e) lives (h.dead p e)) h;
+  stays_ = λ pt p lives off h. learns before pt.kernel pt.kernel pt.view (view_after pt.view (Line.Stays p)) p Here (same pt.kernel) refl refl (λ e. dead_off (is_away Here ≡ true) pt.kernel p (h.free p e) lives (h.dead p e)) h;
   called = λ pt p n calling h.
       learns before pt.kernel pt.kernel pt.view (view_after pt.view (Line.Called p n)) p (view.goes_back (pt.view.known pt.view.acting p) (pt.view.moves p)) (same pt.kernel) refl refl
       (λ e. there_off (is_away (view.goes_back (pt.view.known pt.view.acting p) (pt.view.moves p)) ≡ true) before pt.kernel pt.view p (Incoming calling.from) calling.comes refl h e) h;
@@ -136,10 +148,7 @@ loud before = record {
 -- who has ended is no server, and doesn't live
 pub ended_alive : (pt : Point) (p : Pid) → Phased pt → (y : Why) × (pt.kernel.processes p ≡ Some (Life.Ended y)) → is_alive pt.kernel p ≡ false
 ended_alive pt p phased (y, over) =
-    let process : is_server p ≡ false = elim (cases_Bool (is_server p)) [
-      | inl server ↦ absurd (false≢true (sym (made_free pt p phased.state.sound.made (ap is_some over)) ∙ (server_fixed p server).0))
-      | inr off ↦ off
-    ] in
+    let process : is_server p ≡ false = made_server pt.kernel p phased.state.sound.made (ap is_some over) in
     ap (λ (o : Option Life). is_server p || is_some (kernel.alive o)) over ∙ ap (λ (c : Bool). c || false) process
 
 -- who has ended is on no machine
@@ -154,7 +163,7 @@ pub emptied_group : (b : Boot) (pt : Point) (d : Step) (w : Spelled) → group_o
 emptied_group b pt d w is phased known h =
     let before = dead_in pt.kernel in
     group_keeps (λ o. Emptied before o.kernel o.view) (keeps_by (λ o. Emptied before o.kernel o.view) (loud before)) b pt d w is phased known
-    (record { away = λ n q e. dead_away pt n q phased e; queue = h; dead = λ q e. e })
+    (record { away = λ n q e. dead_away pt n q phased e; queue = h; dead = λ q e. e; free = λ q e. (let (y, over) = ended_is (pt.kernel.processes q) e in made_server pt.kernel q phased.state.sound.made (ap is_some over)) })
 
 -- A process ends only where a group says so.
 

@@ -1,7 +1,7 @@
 -- No message goes from a machine that there isn't.
 use Rattle.dm_movelaws.proofs.Names.{◌≡◌, ℕ, ◌<◌, ◌≤◌, Bool, true, false, List, [], ◌∷◌, ◌++◌, length, refl, subst, arith, if◌then◌else◌, nat_tests, Some, Pid, MsgId, MessageKind, Boot, IsValid, Step, Line, Load, IsStep, Leads, Part}
 use Rattle.dm_movelaws.proofs.Names.{Spelled, spelled, Point, first_point, moved, group_of, at_pair, View, Pair, view_after, after_head, after_put, IsNetLine, group_is, acting_label, touches, pair_same, taken_pair, acting_taken}
-use Rattle.dm_movelaws.proofs.Names.{proto_acting, queued_acting, held_acting, forwarded_acting}
+use Rattle.dm_movelaws.proofs.Names.{proto_acting, queued_acting, held_acting, forwarded_acting, Run, Within, line_within}
 use Rattle.dm_rule.specs.View as view
 use Rattle.dm_movelaws.proofs.Leading.{All, Behind, whatever_put, parts_lead, Saying, outcome_says}
 use Rattle.dm_movelaws.proofs.After.{keeps_always}
@@ -41,20 +41,25 @@ PartCalm = Saying (λ l. is_calm l ≡ true)
 routed_behind : (n : ℕ) (pt : Point) (p : Part) → PartCalm p → Routed n pt.view → Behind (λ q. Routed n q.view) pt p
 routed_behind n pt p calm h = whatever_put (λ q. Routed n q.view) pt p (λ l is s step. record { acting = (calm_line n pt.view l (subst PartCalm is calm) h).acting; none = (calm_line n pt.view l (subst PartCalm is calm) h).none }) (λ b i k q. put_routed n pt.view b i k q h) h
 
-routed_group : (n : ℕ) (b : Boot) (pt : Point) (d : Step) (w : Spelled) → IsStep n d → group_of b pt d ≡ Some w → Routed n pt.view → Routed n w.point.view
-routed_group n b pt d w fit is h =
+routed_group : (n : ℕ) (b : Boot) (pt : Point) (d : Step) (w : Spelled) → IsStep n d → Within n pt.view → group_of b pt d ≡ Some w → Routed n pt.view → Routed n w.point.view
+routed_group n b pt d w fit within is h =
     let net_calm : (l : Line) → IsNetLine l → is_calm l ≡ true = λ l h. grind (arith, nat_tests) in
     let calm_of : (l : Line) → touches l ≡ false → is_calm l ≡ true = λ l e. grind (arith, nat_tests) in
     let g = group_is b pt d w is in
     -- a group
-    let head_routed : Routed n (after_head pt.view d) = grind (arith, nat_tests, kept) in
+    let acts : (after_head pt.view d).acting < n = (line_within n pt.view (Line.Head d) fit within).acting in
+    let head_routed : Routed n (after_head pt.view d) = grind (arith, nat_tests, kept, acts) in
     let parts_routed : (n : ℕ) (ps : List Part) (pt : Point) (w : Spelled) → All PartCalm ps → spelled pt ps ≡ Some w → Routed n pt.view → Routed n w.point.view =
     λ n. parts_lead (λ q. Routed n q.view) (λ q a b k l h. packet_routed n q.view a b k l h) PartCalm (routed_behind n) in
     subst (λ (q : Point). Routed n q.view) g.point (parts_routed n g.parts (moved pt (Line.Head d) pt.kernel) g.rest (outcome_says (λ l. is_calm l ≡ true) calm_of net_calm b pt d g.parts g.is) g.said head_routed)
+
+-- machines that know a process, and the acting one, are among those of the boot file
+pub within_run : (b : Boot) (pt : Point) → Run b pt → Within (length b.machines) pt.view
+within_run b pt run = subst (λ (n : ℕ). Within n pt.view) run.based.machines (record { known = λ m q some. run.found.known_within m q some; acting = run.kept.acting })
 
 -- wherever the rule leads
 pub routed_always : (b : Boot) (es : List Step) (pt : Point) → IsValid b → Leads b (first_point b) es pt → Routed (length b.machines) pt.view
 routed_always b es pt valid leads =
     let some : 0 < length b.machines = let e = valid.some_machines in grind (arith, nat_tests) in
-    keeps_always b (λ q. Routed (length b.machines) q.view) (λ q d w fit is run h. routed_group (length b.machines) b q d w (subst (λ (k : ℕ). IsStep k d) run.based.machines fit) is h)
+    keeps_always b (λ q. Routed (length b.machines) q.view) (λ q d w fit is run h. routed_group (length b.machines) b q d w (subst (λ (k : ℕ). IsStep k d) run.based.machines fit) (within_run b q run) is h)
     valid (record { acting = some; none = λ a c most. refl }) es pt leads

@@ -10,6 +10,7 @@ use Rattle.dm_onekernel.specs.Step as kernel
 use Rattle.dm_movelaws.proofs.At.RestOnly.{AllStay, Ends, Stay, Mild, Kills, Runs, turns_ends, Only, parts_only, label_only, net_stays, is_ending, emptied_group, dead_in, dead_away, is_dead, dead_alike, sends_stay}
 use Rattle.dm_movelaws.proofs.After.{keeps_always}
 use Rattle.dm_movelaws.proofs.Leading.{Behind, All, net_says, parts_lead}
+use Rattle.dm_rulelaws.proofs.Based.Queues.{away_queue}
 
 -- what is left of the queue of a process that has ended
 record Left (a : ℕ) (p : Pid) (v : View) (ids : List MsgId) : Type 0 where
@@ -174,10 +175,6 @@ receivers b pt a p i h least =
     let (t, told) = told_of (pt.view.told i) (h.found.told i (Queue a p) least) in
     (t, told, h.based.phased.sane.tells.receiver i x t there told ∙ (q.is x there).0)
 
--- a process that is here has no queue on any other machine
-away_none : (k : Known) → is_away k ≡ true → has_no_queue k ≡ true
-away_none k e = grind (arith, nat_tests)
-
 pub sort_dead : (o : Option Life) → life_sort o ≡ Some false → is_dead o ≡ true
 sort_dead (Some (Life.Ended y)) e = refl
 sort_dead (Some (Life.Alive x)) e = cc
@@ -189,7 +186,7 @@ turn_starts b pt a h = record {
   others = λ p here n off.
       let s = begins pt a h.based.phased h.based.known in
       let rests = resting (turned pt a).view p s.phases here in
-      h.based.lists.queue n p (away_none (pt.view.known n p) (rests.away n off))
+      h.based.lists.queue n p (away_queue (pt.view.known n p) (rests.away n off))
       (λ over. false≢true (ap is_away (sym here) ∙ dead_away pt a p h.based.phased (sort_dead (pt.kernel.processes p) over)));
 }
 

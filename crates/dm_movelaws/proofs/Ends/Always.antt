@@ -1,10 +1,11 @@
 -- Where nothing is on its way between machines, no kernel's own message stands anywhere, and no process moves.
 use Rattle.dm_movelaws.proofs.Names.{◌≡◌, ℕ, ◌+◌, List, [], ◌∷◌, length, refl, ap, subst, arith, Pid, MsgId, Boot, IsValid, Step, Line, IsStep, Point, first_point, IsQuiet, fits, LeadsBy, Both, both_start, both_group, run_start, run_group}
-use Rattle.dm_movelaws.proofs.Names.{asks, count, EndsAlways, nat_tests, own_ends, ◌∙◌, ◌⊎◌, ◌<◌, ◌≤◌, Bool, true, false, drop, sym, inl, inr, Option, None, Some, false≢true, drop-length, PlainMessage, Phase, Moves, is_due, IsIn}
+use Rattle.dm_movelaws.proofs.Names.{EndsAlways, nat_tests, own_ends, own_asks, ◌∙◌, ◌⊎◌, ◌<◌, ◌≤◌, Bool, true, false, drop, sym, inl, inr, Option, None, Some, false≢true, drop-length, PlainMessage, Phase, Moves, is_due, IsIn}
 use Rattle.dm_movelaws.proofs.Names.{told_between, Spot, Queue, Held, Inbox, Untaken, times, untaken, standing, View, Told, is_kernels, letters, kernels_fresh, under_way, kernels_by, between_of, Run, is_moving, not_true, times_self}
+use Rattle.dm_movelaws.proofs.At.RestPairs.{within_run}
 use Rattle.dm_movelaws.proofs.Ends.Open.{Opens, moving_in, waits_or, IsOpen, waits_moves}
-use Rattle.dm_movelaws.proofs.Ends.Parts.{count-append, Extends, plain_in_bag, asks_for}
-use Rattle.dm_movelaws.proofs.Ends.Groups.{group_balance, owned, owned_zero, own-append, leads_next}
+use Rattle.dm_movelaws.proofs.Ends.Parts.{Extends, plain_in_bag, asks_for}
+use Rattle.dm_movelaws.proofs.Ends.Groups.{group_balance, owned, owned_zero, own-append, asks-append, leads_next}
 use Rattle.dm_movelaws.proofs.Ends.Sources.{Sources, group_acts}
 use Rattle.dm_movelaws.proofs.Asked.Following.{noted_moves}
 use Rattle.dm_movelaws.proofs.At.RestAlways.{still_held as rests_empty}
@@ -97,7 +98,7 @@ record Ran (p : Pid) (b : Boot) (pt end : Point) (ls : List Line) (n : ℕ) : Ty
   sources : Sources (length b.machines) end.view
   left : List MsgId
   opens : Opens (asks_for p) end.view left
-  sum : count (asks p) ls + n ≡ own_ends end.view.told p ls + (length left + moving_at b end both p)
+  sum : own_asks p ls + n ≡ own_ends end.view.told p ls + (length left + moving_at b end both p)
 
 none_ran : (p : Pid) (b : Boot) (pt : Point) (ls : List Line) (ids : List MsgId) (h : Both b pt) → Sources (length b.machines) pt.view → Opens (asks_for p) pt.view ids → ls ≡ [] → Ran p b pt pt ls (length ids + moving_at b pt h p)
 none_ran p b pt ls ids h sources opens none = record {
@@ -106,7 +107,7 @@ none_ran p b pt ls ids h sources opens none = record {
   sources = sources;
   left = ids;
   opens = opens;
-  sum = (let a : count (asks p) ls ≡ 0 = ap (count (asks p)) none in let c : own_ends pt.view.told p ls ≡ 0 = ap (own_ends pt.view.told p) none in omega (arith, a, c));
+  sum = (let a : own_asks p ls ≡ 0 = ap (own_asks p) none in let c : own_ends pt.view.told p ls ≡ 0 = ap (own_ends pt.view.told p) none in omega (arith, a, c));
 }
 
 pub step_for : (b : Boot) (pt : Point) (d : Step) → Both b pt → IsStep pt.kernel.machines d → IsStep (length b.machines) d
@@ -117,7 +118,7 @@ ran p b [] pt end ls ids valid h sources opens (none, at) = subst (λ (x : Point
 ran p b (d ∷ ds) pt end ls ids valid h sources opens (w, rest, fit, is, split, more) =
     let based = h.run.based in
     let next : Both b w.point = both_group run_group b pt d w valid fit is h in
-    let acts = group_acts (length b.machines) b pt d w (step_for b pt d h fit) is sources in
+    let acts = group_acts (length b.machines) b pt d w (step_for b pt d h fit) (within_run b pt h.run) is sources in
     let g = group_balance p b pt d w based.phased.phases next.run.based.phased.phases ids based.phased based.known (fits pt.view based.phased.pairs) is opens (λ n noted. noted_moves b pt based p n noted) (λ n noted. noted_moves b w.point next.run.based p n noted) in
     let r = ran p b ds w.point end rest g.left valid next acts.sources g.opens more in
     record {
@@ -130,8 +131,9 @@ ran p b (d ∷ ds) pt end ls ids valid h sources opens (w, rest, fit, is, split,
           let f = end.view.told in
           let s = g.sum f (λ i t e. r.grows i t e) in
           let z = r.sum in
-          let a : count (asks p) ls ≡ count (asks p) w.lines + count (asks p) rest = ap (count (asks p)) split ∙ count-append (asks p) w.lines rest in
-          let c : own_ends f p ls ≡ own_ends f p w.lines + own_ends f p rest = ap (own_ends f p) split ∙ own-append f p w.lines rest (leads_next b ds w.point end rest more) in
+          let begins = leads_next b ds w.point end rest more in
+          let a : own_asks p ls ≡ own_asks p w.lines + own_asks p rest = ap (own_asks p) split ∙ asks-append p w.lines rest begins.1 in
+          let c : own_ends f p ls ≡ own_ends f p w.lines + own_ends f p rest = ap (own_ends f p) split ∙ own-append f p w.lines rest begins.0 in
           omega (arith, s, z, a, c));
     }
 

@@ -1,17 +1,19 @@
 -- A turn that handles a kernel's own message: a request to move ends where it finds its process, and else goes on.
 use Rattle.dm_movelaws.proofs.Names.{◌≡◌, ℕ, ◌==◌, ◌&&◌, Bool, true, false, List, [], ◌∷◌, length, refl, ap, ◌∙◌, sym, subst, inl, inr, arith, if◌then◌else◌, Option, None, Some, cases_Bool, Pid, pid_eq, MsgId, MessageKind, Stage, Boot}
-use Rattle.dm_movelaws.proofs.Names.{manager, bind, pid_eq-is, Line, Addresses, Sender, is_told_back, to_kernel, forwards_on, told_step, told_here, told_ended, process_told, told_server, View, Told, About, Of, Known, Unknown, Here, Frozen}
+use Rattle.dm_movelaws.proofs.Names.{manager, bind, pid_eq-is, Line, Addresses, Sender, is_told_back, to_kernel, forwards_on, told_step, told_here, told_ended, process_told, View, Told, About, Of, Known, Unknown, Here, Frozen}
 use Rattle.dm_movelaws.proofs.Names.{Forward, view_after, handled, handled_first, receiver_of, target_of, Point, moved, Part, Says, Again, Owns, Spelled, spelled, kernel_hears, Spot, Inbox, ids_at, first_off, line_next, fits_put, pair_same}
 use Rattle.dm_movelaws.proofs.Names.{handled_spots, held_known, forwarded_spots, forwarded_known, put_spots, put_there, put_spot, InPhases, fits_as, PairsFit, sane_line, part_sane, AllLoose, loose_walks, turned, is_moving, is_for}
-use Rattle.dm_movelaws.proofs.Names.{frozen_off, ◌+◌, ◌++◌, ⊤, pid_of, PlainProcess, accepts, takes_chunk, takes_block, sends_on, chunks_of, pieces_of, Incoming, rejoins, front_of, gone_to, is_between, parts, at_record_off, due, Walks}
-use Rattle.dm_movelaws.proofs.Names.{asks, ends, accepted_off, state_off, memory_off, lacks_off, left_off, leaves, label_of, is_put, touches, nat_tests, sets, aim, at_record, MoveNote, Outcome, tells_asker, restarted_off, times, sort_of}
-use Rattle.dm_movelaws.proofs.Names.{◌⊎◌, ◌/◌, not, Phase, Moves, IsIn, is_due, is_restart, kind_leaves, ◌≤◌, standing, Queue, Held, Untaken, not_true, false≢true, eq_is, left_true, ComesIn, goes_back, is_stale, is_waited_from}
-use Rattle.dm_movelaws.proofs.Names.{brings_piece, called_parts, source_knows, Sane, switchboard, TellsEnd, first_walks, tells_end, buried, preds_of, buries_kept, bury_is, map}
+use Rattle.dm_movelaws.proofs.Names.{frozen_off, ◌+◌, ◌++◌, ⊤, pid_of, accepts, takes_chunk, takes_block, sends_on, chunks_of, pieces_of, Incoming, rejoins, front_of, gone_to, is_between, parts, at_record_off, due, Walks}
+use Rattle.dm_movelaws.proofs.Names.{asks, ends, accepted_off, memory_off, lacks_off, left_off, leaves, label_of, is_put, touches, nat_tests, sets, aim, at_record, MoveNote, Outcome, tells_asker, restarted_off, times, sort_of}
+use Rattle.dm_movelaws.proofs.Names.{◌⊎◌, not, Phase, Moves, IsIn, is_due, is_restart, kind_leaves, ◌≤◌, standing, Queue, Held, Untaken, not_true, false≢true, eq_is, left_true, ComesIn, goes_back, is_stale, is_waited_from}
+use Rattle.dm_movelaws.proofs.Names.{brings_piece, called_parts, source_knows, Sane, TellsEnd, first_walks, tells_end, buried, preds_of, buries_kept, bury_is, map}
 use Rattle.dm_movelaws.proofs.Ends.Parts.{AllQuiet, Rest, rest_packet, Settled, parts_settle, quiet_count, quiet_asks, zero_if, first_off as first_off_and, is_migrate, asks_for, kind_not, Smooth, Still, smooth_trans, told_by, Plain}
 use Rattle.dm_movelaws.proofs.Ends.Parts.{Tame, Foreign, still_by, smooth_still, moves_none, smooth_others}
 use Rattle.dm_movelaws.proofs.Ends.Open.{IsOpen, level_balance, close_opens, smooth_opens, moving_in, waits_moves, here_stays, still_moves, not_false, target_waits, Turn, plain_one, front_one, stands_front, first_smooth, first_closes}
 use Rattle.dm_movelaws.proofs.Ends.Open.{line_then, and_off, other_still, set_here, level_row, level_still, quiet_row, end_row, Comes, between_plain, due_moves, about_same, first_spots}
-use Rattle.dm_movelaws.proofs.Leading.{next_of, part_leads, asker_known}
+use Rattle.dm_movelaws.proofs.LastPieces.{last_chunk, state_goes, both_off}
+use Rattle.dm_movelaws.proofs.Names.{Size, size_of, is_server}
+use Rattle.dm_movelaws.proofs.Leading.{next_of, part_leads, asker_known, line_fits}
 use Rattle.dm_movelaws.proofs.Ends.Sources.{smooth_moves, held_smooth, again_told, all_sent, sends_count, sent_begins, rejoins_smooth, Sending, sent_smooth}
 use Rattle.dm_rule.specs.View as view
 use Rattle.dm_movelaws.proofs.Stages.Spares.{is_piece, is_settled, rest_settled}
@@ -20,6 +22,7 @@ use Rattle.dm_movelaws.proofs.Ends.Parts.{Somewhere, settled_same}
 use Rattle.dm_movelaws.proofs.Ends.Sources.{emptied_on}
 use Rattle.dm_rule.specs.Rule as rule
 use Rattle.dm_onekernel.specs.Step as kernel
+use Rattle.dm_rule.proofs.Phases.Answers.{brings_between}
 
 abbrev pub ComesOf : Pid → (pt : Point) → InPhases pt.view → Option (List Part) → Type 0
 ComesOf p pt h None = ⊤
@@ -60,8 +63,35 @@ piece_comes p pt i is t k b h between plain w e =
     let ps = Says (Line.Proto i) ∷ to_kernel k b ∷ [] in
     quiet_row p pt h.phases ps w h.sane h.fits (record { what = t; told = h.told; plain = between_plain p pt.view i t h.told between t h.told }, kernel_quiet p pt.view k b plain) (loose_walks ps pt (λ q. tt, (λ q. tt, tt))) e
 
+-- the last chunk of a server
+server_comes : (p : Pid) (pt : Point) (i : MsgId) (is : List MsgId) (t : Told) (q : Pid) (b : ℕ) (h : Turn pt i is t) → is_between t.kind ≡ true → is_server q ≡ true → ComesOf p pt h.phases (Some (last_chunk q b))
+server_comes p pt i is t q b h between server w e g ids opens =
+    let v = pt.view in
+    let u = w.point.view in
+    let l = Line.Migration Stage.StateTaken q in
+    let k = Line.Migration Stage.MemoryTaken q in
+    let end = to_kernel MessageKind.AllTaken b ∷ [] in
+    let n = line_next pt l (Says k ∷ end) w refl e in
+    let next = moved pt l pt.kernel in
+    let mid = view_after next.view k in
+    let alone = view_after v k in
+    let rest : Settled p mid w.point = subst (λ (x : Point). Settled p mid x) n.point
+    (line_then p next k end n.rest refl refl refl (sane_line pt next l refl refl h.sane) (line_fits pt pt.kernel l refl h.fits) (kernel_quiet p mid MessageKind.AllTaken b refl) (owns_loose MessageKind.AllTaken b (moved next k next.kernel)) n.more) in
+    -- as if step 5 alone had been said
+    let first : Smooth (asks_for p) v alone = first_smooth (asks_for p) v k i is h.front (between_plain p v i t h.told between) refl (memory_off v q) in
+    let second : Smooth (asks_for p) alone mid = smooth_still (asks_for p) alone mid (λ j. told_by next.view k refl j ∙ told_by v l refl j ∙ sym (told_by v k refl j)) (λ j z. ap (times j) (both_off v q z server ∙ sym (memory_off v q z))) in
+    let smooth = smooth_trans (asks_for p) v mid u (smooth_trans (asks_for p) v alone mid first second) rest.smooth in
+    let still : Still p v u = rest.still in
+    level_balance p v u ids (moving_in (h.phases.of p)) (moving_in (g.of p)) (last_chunk q b) smooth opens (still_moves p v u h.phases g still) refl (λ f ext. refl)
+
+last_comes : (p : Pid) (pt : Point) (i : MsgId) (is : List MsgId) (t : Told) (q : Pid) (b : ℕ) (c : Bool) (h : Turn pt i is t) → is_between t.kind ≡ true → is_server q ≡ c
+    → ComesOf p pt h.phases (Some (if c then last_chunk q b else Says (Line.Migration Stage.StateTaken q) ∷ to_kernel MessageKind.PullBlock b ∷ []))
+last_comes p pt i is t q b true h between server = server_comes p pt i is t q b h between server
+last_comes p pt i is t q b false h between free =
+    step_comes p pt i is t (Line.Migration Stage.StateTaken q) MessageKind.PullBlock b h between refl refl refl (λ z. state_goes pt.view q z free) (λ m. refl) refl (λ f. refl) refl
+
 chunk_comes : (p : Pid) (pt : Point) (i : MsgId) (is : List MsgId) (t : Told) (q : Pid) (last : Bool) (h : Turn pt i is t) → is_between t.kind ≡ true → ComesOf p pt h.phases (Some (takes_chunk i q last))
-chunk_comes p pt i is t q true h between = step_comes p pt i is t (Line.Migration Stage.StateTaken q) MessageKind.PullBlock i.from.home h between refl refl refl (state_off pt.view q) (λ m. refl) refl (λ f. refl) refl
+chunk_comes p pt i is t q true h between = last_comes p pt i is t q i.from.home (is_server q) h between refl
 chunk_comes p pt i is t q false h between = piece_comes p pt i is t MessageKind.PullState i.from.home h between refl
 
 block_comes : (p : Pid) (pt : Point) (i : MsgId) (is : List MsgId) (t : Told) (q : Pid) (last : Bool) (h : Turn pt i is t) → is_between t.kind ≡ true → ComesOf p pt h.phases (Some (takes_block i q last))
@@ -157,7 +187,7 @@ leaves_comes p pt i is t q (Frozen to) h all about = left_comes p pt i is t q to
 leaves_comes p pt i is t q _ h all about = tt
 
 -- by the kind of the message
-pub told_comes : (p : Pid) (o : Point) (m : ℕ) (i : MsgId) (is : List MsgId) (t : Told) (q : Pid) (room : Bool × ℕ × ℕ) (x : PlainProcess) (k : MessageKind) (h : Turn (turned o m) i is t) → t.kind ≡ k → t.about ≡ Of q → ComesOf p (turned o m) h.phases (told_step o m i q room x (sort_of k))
+pub told_comes : (p : Pid) (o : Point) (m : ℕ) (i : MsgId) (is : List MsgId) (t : Told) (q : Pid) (room : Bool × ℕ × ℕ) (x : Size) (k : MessageKind) (h : Turn (turned o m) i is t) → t.kind ≡ k → t.about ≡ Of q → ComesOf p (turned o m) h.phases (told_step o m i q room x (sort_of k))
 told_comes p o m i is t q room x MessageKind.Ask h e about = accepts_comes p (turned o m) i is t q room.0 room.1 room.2 i.from.home h (ap is_between e) (ap is_piece e) about
 told_comes p o m i is t q room x MessageKind.Refuse h e about = search (arith, turned o m, ap is_between e, ap is_piece e, comes_back)
 told_comes p o m i is t q room x MessageKind.CallOff h e about = search (arith, turned o m, ap is_between e, ap is_piece e, comes_back)
@@ -279,7 +309,7 @@ moves_comes : (p : Pid) (pt : Point) (i : MsgId) (is : List MsgId) (t : Told) (t
 moves_comes p pt i is t to true h k here = arrived_comes p pt i is t h k
 moves_comes p pt i is t to false h k here = frozen_comes p pt i is t to h k here
 
--- at a process, at a server, and at a kernel
+-- at a process or a server, and at a kernel
 here_comes : (p : Pid) (o : Point) (m : ℕ) (i : MsgId) (is : List MsgId) (t : Told) (k : MessageKind) (h : Turn (turned o m) i is t) → t.kind ≡ k → o.view.known m t.receiver ≡ Here → ComesOf p (turned o m) h.phases (told_here o m i t (sort_of k))
 here_comes p o m i is t MessageKind.Migrate h e here = moves_comes p (turned o m) i is t (target_of (Some t)) (m == target_of (Some t)) h e here
 here_comes p o m i is t MessageKind.Update h e here = updated_comes p (turned o m) i is t _ h e
@@ -290,28 +320,15 @@ over_comes p pt i is t MessageKind.Migrate h e = ended_comes p pt i is t h e
 over_comes p pt i is t MessageKind.Update h e = updated_comes p pt i is t 0 h e
 over_comes p pt i is t k h e = tt
 
-server_comes : (p : Pid) (o pt : Point) (i : MsgId) (is : List MsgId) (t : Told) (k : MessageKind) (h : Turn pt i is t) → t.kind ≡ k → ComesOf p pt h.phases (told_server o i t (sort_of k))
-server_comes p o pt i is t MessageKind.Update h e = updated_comes p pt i is t _ h e
-server_comes p o pt i is t k h e = tt
-
-own_comes : (p : Pid) (o : Point) (m : ℕ) (i : MsgId) (is : List MsgId) (t : Told) (d e : Bool) (h : Turn (turned o m) i is t) → o.view.known m t.receiver ≡ Here
-    → ComesOf p (turned o m) h.phases (if d then told_server o i t (sort_of t.kind) else if e then told_server o i t (sort_of t.kind) else told_here o m i t (sort_of t.kind))
-own_comes p o m i is t true e h known = server_comes p o (turned o m) i is t t.kind h refl
-own_comes p o m i is t false true h known = server_comes p o (turned o m) i is t t.kind h refl
-own_comes p o m i is t false false h known = here_comes p o m i is t t.kind h refl known
-
 pub process_comes : (p : Pid) (o : Point) (m : ℕ) (i : MsgId) (is : List MsgId) (t : Told) (k : Known) (h : Turn (turned o m) i is t) → o.view.known m t.receiver ≡ k → ComesOf p (turned o m) h.phases (process_told o m i t k)
 process_comes p o m i is t Unknown h known = over_comes p (turned o m) i is t t.kind h refl
-process_comes p o m i is t Here h known = own_comes p o m i is t (pid_eq t.receiver switchboard) (pid_eq t.receiver manager) h known
+process_comes p o m i is t Here h known = here_comes p o m i is t t.kind h refl known
 process_comes p o m i is t (Forward at moves) h known = forwards_comes p (turned o m) i is t o.addresses t.kind manager at h
 process_comes p o m i is t _ h known = held_comes p (turned o m) i is t h
 
-of_bind : {X : Type 0} (p : Pid) (pt : Point) (h : InPhases pt.view) (x : Option X) (f : X → Option (List Part)) → ((y : X) → ComesOf p pt h (f y)) → ComesOf p pt h (bind x f)
-of_bind p pt h x f k = grind (arith, nat_tests)
-
--- a piece comes too late
-brings_between : (k : MessageKind) → brings_piece (sort_of k) ≡ true → is_between k ≡ true
-brings_between k e = grind (arith, nat_tests)
+of_bind : {X : Type 0} (p : Pid) (pt : Point) (h : InPhases pt.view) (x : Option X) (f : X → Option (List Part)) → ((y : X) → x ≡ Some y → ComesOf p pt h (f y)) → ComesOf p pt h (bind x f)
+of_bind p pt h None f k = tt
+of_bind p pt h (Some y) f k = k y refl
 
 stale_comes : (p : Pid) (pt : Point) (i : MsgId) (is : List MsgId) (t : Told) (h : Turn pt i is t) → is_between t.kind ≡ true → ComesOf p pt h.phases (Some (Says (Line.Stale i) ∷ []))
 stale_comes p pt i is t h between w e =
@@ -329,13 +346,16 @@ pub kernel_comes : (p : Pid) (b : Boot) (o : Point) (m : ℕ) (i : MsgId) (is : 
     → ComesOf p (turned o m) h.phases (kernel_hears b o m i t.kind a)
 kernel_comes p b o m i is t (Of q) h about ends = of_over (tells_end (sort_of t.kind)) refl
   where
-    of_stale : (c : Bool) → is_stale o m i t.kind q ≡ c
-        → ComesOf p (turned o m) h.phases (if c then Some (Says (Line.Stale i) ∷ []) else bind (kernel.alive (o.kernel.processes q)) (λ x. told_step o m i q (rule.fits (rule.free_room b o m) (length x.memory / 256)) x (sort_of t.kind)))
-    of_stale true stale = stale_comes p (turned o m) i is t h (brings_between t.kind (left_true (brings_piece (sort_of t.kind)) (not (is_waited_from i.from.home (o.view.known m q))) stale))
-    of_stale false fresh = search (of_bind, told_comes)
+    steps : Option (List Part)
+    steps = bind (size_of o.kernel q) (λ x. told_step o m i q (rule.fits (rule.free_room b o m) x.blocks) x (sort_of t.kind))
 
-    of_over : (c : Bool) → tells_end (sort_of t.kind) ≡ c
-        → ComesOf p (turned o m) h.phases (if c then Some (buried o m i q) else if is_stale o m i t.kind q then Some (Says (Line.Stale i) ∷ []) else bind (kernel.alive (o.kernel.processes q)) (λ x. told_step o m i q (rule.fits (rule.free_room b o m) (length x.memory / 256)) x (sort_of t.kind)))
+    of_stale : (c : Bool) → is_stale o m i t.kind q ≡ c → ComesOf p (turned o m) h.phases (if c then Some (Says (Line.Stale i) ∷ []) else steps)
+    of_stale true stale = stale_comes p (turned o m) i is t h (brings_between t.kind (left_true (brings_piece (sort_of t.kind)) (not (is_waited_from i.from.home (o.view.known m q))) stale))
+    of_stale false fresh =
+        of_bind p (turned o m) h.phases (size_of o.kernel q) (λ x. told_step o m i q (rule.fits (rule.free_room b o m) x.blocks) x (sort_of t.kind))
+        (λ x sized. told_comes p o m i is t q (rule.fits (rule.free_room b o m) x.blocks) x t.kind h refl about)
+
+    of_over : (c : Bool) → tells_end (sort_of t.kind) ≡ c → ComesOf p (turned o m) h.phases (if c then Some (buried o m i q) else if is_stale o m i t.kind q then Some (Says (Line.Stale i) ∷ []) else steps)
     of_over true over = let kind = bury_is t.kind over in buried_comes p (turned o m) i is t (length (preds_of o m q)) (preds_of o m q) h kind (ends q refl kind)
     of_over false off = of_stale (is_stale o m i t.kind q) refl
 kernel_comes p b o m i is t _ h about ends = tt

@@ -120,7 +120,7 @@ QuietLine p v (Line.NoMove i) = Foreign p v i
 QuietLine p v (Line.Stale i) = Tame p v i
 QuietLine p v (Line.NoChild q) = pid_eq p q ≡ false
 QuietLine p v (Line.NoCall q) = ⊤
-QuietLine p v (Line.Pinned q) = pid_eq p q ≡ false
+QuietLine p v Line.Away = ⊤
 QuietLine p v (Line.Migration Stage.Asked q) = ⊤
 QuietLine p v _ = ⊥
 
@@ -181,7 +181,7 @@ line_smooth p pt s (Line.NoMove i) h quiet is = hushed_smooth (asks_for p) pt.vi
 line_smooth p pt s (Line.Stale i) h quiet is = hushed_smooth (asks_for p) pt.view (Line.Stale i) i refl (tame_plain p pt.view i quiet) (λ j e z. handled_spots pt.view i j e z)
 line_smooth p pt s (Line.NoChild q) h quiet is = smooth_same (asks_for p) pt.view
 line_smooth p pt s (Line.NoCall q) h quiet is = smooth_same (asks_for p) pt.view
-line_smooth p pt s (Line.Pinned q) h quiet is = smooth_same (asks_for p) pt.view
+line_smooth p pt s Line.Away h quiet is = smooth_same (asks_for p) pt.view
 line_smooth p pt s (Line.Proto i) h quiet is = hushed_smooth (asks_for p) pt.view (Line.Proto i) i refl (tame_plain p pt.view i quiet) (λ j e z. ap (times j) (proto_off (handled pt.view i) (pt.view.told i) z) ∙ handled_spots pt.view i j e z)
 line_smooth p pt s (Line.Migration Stage.Asked q) h quiet is = smooth_same (asks_for p) pt.view
 line_smooth p pt s _ h quiet is = absurd quiet
@@ -230,7 +230,7 @@ line_still p pt (Line.NoMove i) quiet need = λ m. refl
 line_still p pt (Line.Stale i) quiet need = λ m. refl
 line_still p pt (Line.NoChild q) quiet need = λ m. refl
 line_still p pt (Line.NoCall q) quiet need = λ m. refl
-line_still p pt (Line.Pinned q) quiet need = λ m. refl
+line_still p pt Line.Away quiet need = λ m. refl
 line_still p pt (Line.Migration Stage.Asked q) quiet need = λ m. refl
 line_still p pt _ quiet need = absurd quiet
 

@@ -3,7 +3,7 @@ use Rattle.dm_movelaws.proofs.Names.{◌≡◌, ℕ, ◌<◌, ◌≤◌, ◌==�
 use Rattle.dm_movelaws.proofs.Names.{after_put, Point, Part, Spelled, spelled, group_of, group_is, IsNetLine, is_put, eq_is, touches, pair_same, taken_pair, put_at, PacketsKeep, put_told_off, begun, nat_tests, moved, About, ◌⊎◌, ◌∷◌, ◌++◌}
 use Rattle.dm_movelaws.proofs.Names.{ap, sym, inl, inr, if◌then◌else◌, None, cases_Bool, id_eq, id_eq-same, at_machine, at_record, Here, handled, handled_first, held_for, receiver_of, released, with_ring, knowing, Again, sends_on, Spot}
 use Rattle.dm_movelaws.proofs.Names.{Queue, Held, Inbox, Untaken, times, ids_at, standing, at_record_at, parts, eq_self, fits_put, fits_packet, one_of, handled_spots, held_spots, put_spots, put_there, put_spot, times-append, PairsFit, Sane}
-use Rattle.dm_movelaws.proofs.Names.{part_sane, pid_eq-is, last_there, fewer_record}
+use Rattle.dm_movelaws.proofs.Names.{part_sane, pid_eq-is, last_there, fewer_record, Within, line_within}
 pub use Rattle.dm_rule.proofs.Moves.States.{again_told}
 use Rattle.dm_rule.specs.View as view
 use Rattle.dm_movelaws.proofs.Ends.Parts.{first_kept, Extends, told_by, packet_smooth, part_count, Somewhere, Smooth, Plain, smooth_trans, smooth_still, stands_as, stands_was, other_than as other_front}
@@ -54,13 +54,13 @@ acts_behind n f pt p ok h =
     whatever_put (λ q. Acts n f q.view) pt p (λ l is s step. let k = subst Goes is ok in acts_about n f (view_after pt.view l) (moved pt l s).view.topic (line_acts n f pt.view l k.0 k.1 h)) (λ b i k q. put_acts n f pt.view b i k q h) h
 
 -- each group
-pub group_acts : (n : ℕ) (b : Boot) (pt : Point) (d : Step) (w : Spelled) → IsStep n d → group_of b pt d ≡ Some w → Sources n pt.view → Acts n pt.view.told w.point.view
-group_acts n b pt d w fit e h =
+pub group_acts : (n : ℕ) (b : Boot) (pt : Point) (d : Step) (w : Spelled) → IsStep n d → Within n pt.view → group_of b pt d ≡ Some w → Sources n pt.view → Acts n pt.view.told w.point.view
+group_acts n b pt d w fit within e h =
     -- what the parts of a group are
     let net_goes : (l : Line) → IsNetLine l → (is_head l ≡ false) × (is_put l ≡ false) = λ l e. grind (arith, nat_tests) in
     let fit_goes : (l : Line) → touches l ≡ false → (is_head l ≡ false) × (is_put l ≡ false) = λ l e. grind (arith, nat_tests) in
     let g = group_is b pt d w e in
-    let start : Acts n pt.view.told (begun pt d).view = record { acting = grind (arith, nat_tests); sources = λ x y le. head_ids pt.view d x y ∙ h x y le; grows = λ i t told. told_by pt.view (Line.Head d) refl i ∙ told } in
+    let start : Acts n pt.view.told (begun pt d).view = record { acting = (line_within n pt.view (Line.Head d) fit within).acting; sources = λ x y le. head_ids pt.view d x y ∙ h x y le; grows = λ i t told. told_by pt.view (Line.Head d) refl i ∙ told } in
     let parts_act : (n : ℕ) (f : MsgId → Option Told) (ps : List Part) (pt : Point) (w : Spelled) → All Goes ps → spelled pt ps ≡ Some w → Acts n f pt.view → Acts n f w.point.view =
     λ n f. parts_lead (λ q. Acts n f q.view) (λ q a b k l h. line_acts n f q.view (Line.Packet a b k l) refl refl h) Goes (acts_behind n f) in
     subst (λ (q : Point). Acts n pt.view.told q.view) g.point (parts_act n pt.view.told g.parts (begun pt d) g.rest (outcome_says IsSaid fit_goes net_goes b pt d g.parts g.is) g.said start)
@@ -173,10 +173,10 @@ emptied_on f a q i m r least = grind (arith, nat_tests, parts, eq_is, pid_eq-is)
 abbrev sent_view : View → Pid → ℕ → View
 sent_view v q n = view_after v (Line.SentOn q n)
 
-both_first : (i : MsgId) (xs ys : List MsgId) → 1 ≤ times i xs → 1 ≤ times i (xs ++ ys)
+pub both_first : (i : MsgId) (xs ys : List MsgId) → 1 ≤ times i xs → 1 ≤ times i (xs ++ ys)
 both_first i xs ys least = let a = times-append i xs ys in omega (arith, a, least)
 
-both_second : (i : MsgId) (xs ys : List MsgId) → 1 ≤ times i ys → 1 ≤ times i (xs ++ ys)
+pub both_second : (i : MsgId) (xs ys : List MsgId) → 1 ≤ times i ys → 1 ≤ times i (xs ++ ys)
 both_second i xs ys least = let a = times-append i xs ys in omega (arith, a, least)
 
 sent_on : (v : View) (q : Pid) (n : ℕ) (i : MsgId) → ((z : Spot) → standing (handled_first v) i z ≡ standing v i z) → (z : Spot) → 1 ≤ standing v i z → Somewhere (sent_view v q n) i ⊎ (1 ≤ times i (v.queue v.acting q ++ v.held v.acting q))
@@ -253,7 +253,7 @@ released_back v q i (Untaken a b) st = (Untaken a b, st)
 
 pub rejoins_smooth : (picks : Told → Bool) (v : View) (q : Pid) → Smooth picks v (view.rejoins v q)
 rejoins_smooth picks v q =
-    let here_off : (v : View) (q : Pid) (ring : List Pid) (z : Spot) → ids_at (with_ring (knowing v q Here) ring) z ≡ ids_at v z = λ v q ring z. grind (arith, nat_tests) in
-    let u = with_ring (knowing v q Here) (v.ring v.acting ++ q ∷ []) in
+    let u = view.seated (with_ring (knowing v q Here) (view.ring_with (v.ring v.acting) q)) q in
+    let here_off : (z : Spot) → ids_at u z ≡ ids_at v z = λ z. grind (arith, nat_tests) in
     let released_smooth : Smooth picks u (released u q) = record { kept = λ i t e. e; fresh = λ i t e a. e; on = λ i t e a s. released_on u q i s.0 s.1; back = λ i t e a s. released_back u q i s.0 s.1 } in
-    smooth_trans picks v u (released u q) (smooth_still picks v u (λ i. refl) (λ i z. ap (times i) (here_off v q (v.ring v.acting ++ q ∷ []) z))) released_smooth
+    smooth_trans picks v u (released u q) (smooth_still picks v u (λ i. refl) (λ i z. ap (times i) (here_off z))) released_smooth

@@ -1,5 +1,5 @@
 -- Where all is at rest, a process that was told of a forward has links that lead to where the other is.
-use Rattle.dm_movelaws.proofs.Names.{◌≡◌, ◌≢◌, ℕ, ◌+◌, ◌≤◌, true, false, List, [], ◌∷◌, ◌++◌, is_some, refl, ap, ◌∙◌, sym, subst, arith, slice_get, slice_get_within, Some, Pid, Place, MsgId, Boot, OneKernel, receptions, reached, Sound}
+use Rattle.dm_movelaws.proofs.Names.{◌≡◌, ◌≢◌, ℕ, ◌+◌, ◌≤◌, ◌||◌, Bool, cases_Bool, inl, inr, true, false, List, [], ◌∷◌, ◌++◌, is_some, refl, ap, ◌∙◌, sym, subst, arith, slice_get, slice_get_within, Some, Pid, Place, MsgId, Boot, OneKernel, receptions, reached, Sound}
 use Rattle.dm_movelaws.proofs.Names.{Step, IsStep, Leads, Point, first_point, labels, Trails, View, Unknown, Forward, actor, is_server, KnownStands, group_replay, run_always, AtRest, IsThere, CountsPromise, update_of, IsUnderWay, is_made, or_first, nat_tests}
 use Rattle.dm_movelaws.proofs.At.Always.{at_rest_always}
 use Rattle.dm_movelaws.proofs.Forwards.Told.{forwards_tell}
@@ -35,19 +35,22 @@ at_place pt t id p q place on rest told made =
 pub counts_promise : CountsPromise
 counts_promise b before between start pt d sent p q place valid comes forwards known goes quiet =
     let forwarded_some : (v : View) (m : ℕ) (q : Pid) (to moves : ℕ) → v.known m q ≡ Forward to moves → v.known m q ≢ Unknown = λ v m q to moves known e. let f : Forward to moves ≡ Unknown = sym known ∙ e in cc in
-    let forwarded_made : (s : OneKernel) (v : View) (m : ℕ) (q : Pid) (to moves : ℕ) → KnownStands s v → v.known m q ≡ Forward to moves → (is_server q ≡ false) × (is_some (s.processes q) ≡ true) =
-    λ s v m q to moves h known. grind (arith, nat_tests) in
+    let forwarded_made : (s : OneKernel) (v : View) (m : ℕ) (q : Pid) (to moves : ℕ) → is_server q ≡ false → KnownStands s v → v.known m q ≡ Forward to moves → is_some (s.processes q) ≡ true =
+    λ s v m q to moves process h known. let agree = h.agree m q process in (let e_ : is_some (s.processes q) ≡ true = grind (arith, nat_tests) in e_) in
     let run = (run_always b before start valid comes).run in
     let t = forwards_tell b before start d sent p q place.at valid comes forwards in
     let moves : t.moves ≡ place.moves = cc (sym t.known ∙ known) in
     let way : IsUnderWay sent.point.view t.update p q place = subst (λ (n : ℕ). IsUnderWay sent.point.view t.update p q (record { at = place.at; moves = n })) moves t.way in
-    let fit = subst (IsStep start.kernel.machines) (sym t.turn) (run.found.known_within (actor d) q (forwarded_some start.view (actor d) q place.at place.moves known)) in
+    let fit = subst (IsStep start.kernel.machines) (sym t.turn) (run.found.known_within (actor start.view d) q (forwarded_some start.view (actor start.view d) q place.at place.moves known)) in
     let first = before ++ d ∷ [] in
     let told : Leads b (first_point b) first sent.point = leads_append b before (d ∷ []) (first_point b) start sent.point comes (sent, fit, forwards.is, refl) in
     let all : Leads b (first_point b) (first ++ between) pt = leads_append b first between (first_point b) sent.point pt told goes in
-    let (server, made) = forwarded_made start.kernel start.view (actor d) q place.at place.moves run.based.known known in
     let sane = run.based.phased.sane in
-    let still = or_first (is_server q) (is_some (pt.kernel.processes q)) (made_on b (d ∷ between) start pt q sane.r sane.e (sent, fit, forwards.is, goes) sane.sound made) in
+    let still : is_made pt.kernel q ≡ true = elim (cases_Bool (is_server q)) [
+      | inl server ↦ ap (λ (c : Bool). c || is_some (pt.kernel.processes q)) server
+      | inr process ↦ or_first (is_server q) (is_some (pt.kernel.processes q))
+          (made_on b (d ∷ between) start pt q sane.r sane.e (sent, fit, forwards.is, goes) sane.sound (forwarded_made start.kernel start.view (actor start.view d) q place.at place.moves process run.based.known known))
+    ] in
     let (trails, on) = trail_known b (first ++ between) pt valid all in
     let lines = lines_by b between sent.point pt goes in
     let told_end = lines_told lines.lines sent.point pt t.update (update_of p q place) lines.leads way.told in

@@ -251,9 +251,9 @@ sent_tells b o d w g h run back =
     let said = sym (ap (spelled (begun o d)) (let e_ : g.parts ≡ Says (Line.Forwarded h.id h.to) ∷ Again h.id h.to ∷ Owns MessageKind.Update h.message.sender (o.addresses (Sender h.id)).at ∷ [] = search in e_)) ∙ g.said in
     let t = tells (begun o d) g.rest h.id p place (o.addresses (Sender h.id)).at f.told q (begun_sane o d sane) fit told (sane.tells.receiver h.id h.message f.told h.there f.told_is) known said in
     record {
-      turn = h.acts ∙ ap (λ (e : Step). Step.Turn (actor e)) (sym h.acts);
+      turn = h.acts ∙ ap (λ (e : Step). Step.Turn (actor o.view e)) (sym h.acts);
       moves = h.moves;
-      known = ap (λ (e : Step). o.view.known (actor e) q) h.acts ∙ h.known;
+      known = ap (λ (e : Step). o.view.known (actor o.view e) q) h.acts ∙ h.known;
       update = t.update;
       new = ap (λ (v : View). v.told t.update) (sym begins) ∙ t.new;
       way = subst (λ (x : Spelled). IsUnderWay x.point.view t.update p q place) g.whole t.way;
@@ -289,9 +289,9 @@ own_tells b o d w g h run back =
     let said = sym (ap (spelled (begun o d)) (h.are ∙ ap (λ (c : Bool). Says (Line.Forwarded h.id h.to) ∷ Again h.id h.to ∷ (if c then Owns MessageKind.Update manager (o.addresses (Sender h.id)).at ∷ [] else [])) back)) ∙ g.said in
     let t = tells (begun o d) g.rest h.id manager place (o.addresses (Sender h.id)).at h.told q (begun_sane o d sane) fit told refl known said in
     record {
-      turn = h.acts ∙ ap (λ (e : Step). Step.Turn (actor e)) (sym h.acts);
+      turn = h.acts ∙ ap (λ (e : Step). Step.Turn (actor o.view e)) (sym h.acts);
       moves = h.moves;
-      known = ap (λ (e : Step). o.view.known (actor e) q) h.acts ∙ h.known;
+      known = ap (λ (e : Step). o.view.known (actor o.view e) q) h.acts ∙ h.known;
       update = t.update;
       new = ap (λ (v : View). v.told t.update) (sym begins) ∙ t.new;
       way = subst (λ (x : Spelled). IsUnderWay x.point.view t.update manager q place) g.whole t.way;

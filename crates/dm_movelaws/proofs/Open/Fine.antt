@@ -5,6 +5,7 @@ use Rattle.dm_movelaws.proofs.Names.{spelled, group_of, Told, Here, Sane, sends_
 use Rattle.dm_movelaws.proofs.Names.{by_hears, by_forwards, by_migrates, by_outcome, by_parts, by_group, begun, said_by, Outcome, answers_move, leaves_for, asked_noted, arith, by_calls_off, calls_off, buried, preds_of, buries_kept}
 use Rattle.dm_onekernel.specs.Pieces as pieces
 use Rattle.dm_rule.specs.Rule as rule
+use Rattle.dm_movelaws.proofs.LastPieces.{last_chunk}
 use Rattle.dm_movelaws.proofs.Leading.{AllLines, parts_say, next_of}
 use Rattle.dm_movelaws.proofs.Asked.Following.{marks_note, IsUnmarked, AllUnmarked, Row, Plain, Ends, IsHere, Leaves, outcome_row, end_label}
 use Rattle.dm_movelaws.proofs.Stages.Spares.{open_after, open-append, marks-append}
@@ -176,6 +177,7 @@ hears_shut p b o m i q ps =
         state = quiet (gives_piece i MessageKind.State) (refl, (tt, tt));
         next_chunk = quiet (Says (Line.Proto i) ∷ to_kernel MessageKind.PullState i.from.home ∷ []) (refl, (tt, tt));
         last_chunk = quiet (Says (Line.Migration Stage.StateTaken r) ∷ to_kernel MessageKind.PullBlock i.from.home ∷ []) (refl, (tt, tt));
+        server_chunk = λ server. quiet (last_chunk r i.from.home) (refl, (refl, (tt, tt)));
         memory = quiet (gives_piece i MessageKind.Memory) (refl, (tt, tt));
         next_block = quiet (Says (Line.Proto i) ∷ to_kernel MessageKind.PullBlock i.from.home ∷ []) (refl, (tt, tt));
         last_block = quiet (Says (Line.Migration Stage.MemoryTaken r) ∷ to_kernel MessageKind.AllTaken i.from.home ∷ []) (refl, (tt, tt));

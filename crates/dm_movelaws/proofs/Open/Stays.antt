@@ -1,9 +1,12 @@
 -- Each line between a process's step 1 and its step 8 or `stays` is another's, and leaves its plain value.
 use Rattle.dm_movelaws.proofs.Names.{◌≡◌, ℕ, true, false, List, [], ◌∷◌, ◌++◌, is_some, refl, ap, ◌∙◌, sym, subst, Option, None, Some, Pid, MsgId, MessageKind, Boot, IsValid, OneKernel, bind, bind-is, Step, Line, Spelled, Moves, IsIn}
 use Rattle.dm_movelaws.proofs.Names.{Point, label_of, kernel_after, moved, after_line, after, first_point, group_of, first_view, rooted, is_fixed, LeadsBy, Both, both_start, both_group, after_replay, Run, run_start, run_group, IsAnothersIf}
-use Rattle.dm_movelaws.proofs.Names.{OpenStays, Mark, marks, append_assoc, start, replay, labels, labels-append, replay-append, AllOpen, OpenKeeps, nat_tests, arith, Known, KnownIs, View, kind_leaves, by_group}
+use Rattle.dm_movelaws.proofs.Names.{OpenStays, Mark, marks, append_assoc, start, replay, labels, labels-append, replay-append, AllOpen, OpenKeeps, nat_tests, arith, Known, KnownIs, View, kind_leaves, by_group, Phase, Nowhere, Rests, Over}
 use Rattle.dm_movelaws.proofs.After.{after-append, group_after}
 use Rattle.dm_movelaws.proofs.Open.Apart.{AllAlone, moving_off, moving_alone, kernel_same, alone_rest, anothers_if, source_knows, moving_lives}
+use Rattle.dm_movelaws.specs.Open.{server_value}
+use Rattle.dm_movelaws.proofs.Open.Servers.{kernel_value}
+use Rattle.dm_rule.proofs.Apart.Steps.{spares_of}
 use Rattle.dm_movelaws.proofs.Open.Moves.{open_is, none_due}
 use Rattle.dm_movelaws.proofs.Stages.Always.{group_marked}
 use Rattle.dm_movelaws.proofs.Stages.Spares.{mark_in, open_after, open-append, marks-append}
@@ -18,6 +21,7 @@ record At (pt : Point) (earlier : List Line) (l : Line) (p : Pid) : Type 0 where
   goes : kernel_after mid.kernel (label_of l) ≡ Some next
   anothers : IsAnothersIf mid.kernel p (label_of l)
   same : next.processes p ≡ mid.kernel.processes p
+  server : server_value p next ≡ server_value p mid.kernel
 
 -- where lines lead, the first of them do
 record Meets (pt : Point) (xs : List Line) (l : Line) : Type 0 where
@@ -53,7 +57,8 @@ moving_at b pt d w p k s t id earlier g l run phase e split begun =
       next = m.next;
       goes = m.goes;
       anothers = anothers_if m.mid.kernel m.next p (label_of l) free (λ y over. moving_lives b pt p k s t id y run phase (sym rest.same ∙ over)) fine rest.rest.0 m.goes;
-      same = kernel_same m.mid.kernel m.next p (label_of l) rest.rest.0 m.goes;
+      same = kernel_same m.mid.kernel m.next p (label_of l) (spares_of m.mid.kernel p (label_of l) rest.rest.0) m.goes;
+      server = kernel_value m.mid.kernel m.next p (label_of l) rest.rest.0 m.goes;
     }
 
 resting_at : (b : Boot) (pt : Point) (d : Step) (w : Spelled) (p : Pid) (earlier g : List Line) (l : Line) → group_of b pt d ≡ Some w → w.lines ≡ earlier ++ l ∷ g → is_some (open_after None (marks p earlier)) ≡ true → At pt earlier l p
@@ -86,9 +91,16 @@ pub none_there : (earlier later : List Line) (l : Line) → [] ≡ earlier ++ l 
 none_there [] later l e = cc
 none_there (x ∷ earlier) later l e = cc
 
+-- of a group, in either phase
+first_at : (b : Boot) (pt : Point) (d : Step) (w : Spelled) (p : Pid) (phase : Phase) (earlier g : List Line) (l : Line) → Run b pt → IsIn pt.view p phase → group_of b pt d ≡ Some w → w.lines ≡ earlier ++ l ∷ g → is_some (open_after (mark_in phase) (marks p earlier)) ≡ true → At pt earlier l p
+first_at b pt d w p (Moves k s t id) earlier g l run is e split begun = moving_at b pt d w p k s t id earlier g l run is e split begun
+first_at b pt d w p Nowhere earlier g l run is e split begun = resting_at b pt d w p earlier g l e split begun
+first_at b pt d w p (Rests at) earlier g l run is e split begun = resting_at b pt d w p earlier g l e split begun
+first_at b pt d w p (Over at) earlier g l run is e split begun = resting_at b pt d w p earlier g l e split begun
+
 by_lies : (b : Boot) (ds : List Step) (pt end : Point) (d : Step) (w : Spelled) (rest earlier later : List Line) (l : Line) (p : Pid) (h : Both b pt) (k : Both b w.point) → group_of b pt d ≡ Some w → is_some (open_after (mark_in (h.run.based.phased.phases.of p)) (marks p earlier)) ≡ true
     → ((between : List Line) → rest ≡ between ++ l ∷ later → is_some (open_after (mark_in (k.run.based.phased.phases.of p)) (marks p between)) ≡ true → At w.point between l p) → Lies w.lines rest earlier later l → At pt earlier l p
-by_lies b ds pt end d w rest earlier later l p h k e begun go (First g split) = search (arith, moving_at, resting_at)
+by_lies b ds pt end d w rest earlier later l p h k e begun go (First g split) = let phases = h.run.based.phased.phases in first_at b pt d w p (phases.of p) earlier g l h.run (phases.each p) e split begun
 by_lies b ds pt end d w rest earlier later l p h k e begun go (Later between are others) =
     let a = h.run.based.phased in
     let c = k.run.based.phased in
@@ -105,6 +117,7 @@ by_lies b ds pt end d w rest earlier later l p h k e begun go (Later between are
       goes = at.goes;
       anothers = at.anothers;
       same = at.same;
+      server = at.server;
     }
 
 run_at : (b : Boot) (es : List Step) (ls earlier later : List Line) (l : Line) (pt end : Point) (p : Pid) → IsValid b → LeadsBy b pt es ls end → (h : Both b pt) → ls ≡ earlier ++ l ∷ later → is_some (open_after (mark_in (h.run.based.phased.phases.of p)) (marks p earlier)) ≡ true → At pt earlier l p
@@ -120,11 +133,11 @@ open_stays b es ls earlier later l pt p valid leads split begun =
     let phases = h.run.based.phased.phases in
     let none : mark_in (phases.of p) ≡ None = grind (arith, nat_tests, (phases.each p), (none_due (first_view b) phases p)) in
     let at = run_at b es ls earlier later l (first_point b) pt p valid leads h split (ap (λ (o : Option Mark). is_some (open_after o (marks p earlier))) none ∙ ap is_some (sym (open_is None (marks p earlier))) ∙ begun) in
-    record { before = at.mid.kernel; comes = after_replay earlier (first_point b) at.mid at.comes; behind = at.next; goes = at.goes; anothers = at.anothers; same = at.same }
+    record { before = at.mid.kernel; comes = after_replay earlier (first_point b) at.mid at.comes; behind = at.next; goes = at.goes; anothers = at.anothers; same = at.same; server = at.server }
 
 keeps : (b : Boot) (es : List Step) (ls earlier between later : List Line) (pt : Point) (p : Pid) (s t : OneKernel) → IsValid b → LeadsBy b (first_point b) es ls pt → ls ≡ earlier ++ (between ++ later) → AllOpen p earlier between → replay (start b) (labels earlier) ≡ Some s
-    → replay s (labels between) ≡ Some t → t.processes p ≡ s.processes p
-keeps b es ls earlier [] later pt p s t valid leads split on e f = let g : t ≡ s = cc in ap (λ (k : OneKernel). k.processes p) g
+    → replay s (labels between) ≡ Some t → (t.processes p ≡ s.processes p) × (server_value p t ≡ server_value p s)
+keeps b es ls earlier [] later pt p s t valid leads split on e f = let g : t ≡ s = cc in (ap (λ (k : OneKernel). k.processes p) g, ap (server_value p) g)
 keeps b es ls earlier (l ∷ between) later pt p s t valid leads split on e f =
     let a = open_stays b es ls earlier (between ++ later) l pt p valid leads split on.0 in
     let at : a.before ≡ s = (let k : Some a.before ≡ Some s = sym a.comes ∙ e in cc) in
@@ -134,7 +147,8 @@ keeps b es ls earlier (l ∷ between) later pt p s t valid leads split on e f =
     let more : ls ≡ (earlier ++ l ∷ []) ++ (between ++ later) = split ∙ sym (append_assoc earlier (l ∷ []) (between ++ later)) in
     -- one line
     let rest_of : replay a.behind (labels between) ≡ Some t = grind (arith, nat_tests, bind-is) in
-    keeps b es ls (earlier ++ l ∷ []) between later pt p a.behind t valid leads more on.1 here rest_of ∙ a.same ∙ ap (λ (k : OneKernel). k.processes p) at
+    let k = keeps b es ls (earlier ++ l ∷ []) between later pt p a.behind t valid leads more on.1 here rest_of in
+    (k.0 ∙ a.same ∙ ap (λ (k : OneKernel). k.processes p) at, k.1 ∙ a.server ∙ ap (server_value p) at)
 
 -- wherever the rule leads
 pub open_keeps : OpenKeeps

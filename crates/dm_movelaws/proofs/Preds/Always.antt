@@ -1,5 +1,5 @@
 -- Wherever the rule leads, each forwarding address is held back.
-use Rattle.dm_movelaws.proofs.Names.{◌≡◌, ℕ, ◌<◌, ◌≤◌, ◌==◌, ◌||◌, Bool, true, false, List, refl, ap, ◌∙◌, sym, subst, arith, nat_tests, Option, None, Some, is_some, false≢true, Boot, BootProcess, Step, IsValid, Leads, Pid, pid_of, MsgId}
+use Rattle.dm_movelaws.proofs.Names.{◌≡◌, ℕ, ◌<◌, ◌≤◌, ◌==◌, Bool, true, false, List, refl, ap, ◌∙◌, sym, subst, arith, nat_tests, Option, None, Some, is_some, false≢true, Boot, BootProcess, Step, IsValid, Leads, Pid, pid_of, MsgId}
 use Rattle.dm_movelaws.proofs.Names.{MessageKind, PlainMessage, Told, Of, Known, Unknown, Here, Incoming, Forward, first_view, first_point, Point, Spot, Queue, Held, Inbox, Untaken, standing, times, is_between, sort_of, pulls_piece}
 use Rattle.dm_movelaws.proofs.Names.{brings_piece, Phase, Moves, IsIn, receiver_in, sender_in, told_between, IsToken, IsLeft, Asks, Comes, Token, LeftOver, token_is, about_same, Run, run_always, length, eq_self, machine_of, is_server}
 use Rattle.dm_movelaws.proofs.Names.{start_known, ◌⊎◌, inl, inr, agrees, has_nothing_held, Life, stands_right, is_kernels, kernels_fresh, own_by, known_at, IsHeldBack, ByPreds, ByBury, ByCallOff, PredecessorsAlways, is_way_to}
@@ -56,7 +56,7 @@ waits_not b pt i t k q run told word least = by_bag (pt.kernel.bag i) refl
         grind (arith, nat_tests)
 
 on_way : (b : Boot) (pt : Point) (i : MsgId) (t : Told) (m : ℕ) (z : Spot) → Run b pt → pt.view.told i ≡ Some t → is_word t ≡ true → t.receiver ≡ pid_of m 0 → 1 ≤ standing pt.view i z → is_way_to m z ≡ true
-on_way b pt i t m z run told word to st = by_spot z st (run.found.fixed i z t st told (ap (λ (x : Pid). (x.num == 0) || is_server x) to) ∙ ap (λ (x : Pid). x.home) to)
+on_way b pt i t m z run told word to st = by_spot z st (run.found.fixed i z t st told (ap (λ (x : Pid). x.num == 0) to) ∙ ap (λ (x : Pid). x.home) to)
   where
     by_spot : (z : Spot) → 1 ≤ standing pt.view i z → machine_of z ≡ m → is_way_to m z ≡ true
     by_spot (Queue k q) st at = absurd (waits_not b pt i t k q run told word st)

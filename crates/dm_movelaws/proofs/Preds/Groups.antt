@@ -1,8 +1,8 @@
 -- Each group keeps that all forwarding addresses are held back.
-use Rattle.dm_movelaws.proofs.Names.{◌≡◌, ℕ, ◌<◌, ◌==◌, ◌||◌, true, false, List, [], ◌∷◌, refl, ap, ◌∙◌, sym, subst, Option, None, Some, false≢true, Pid, pid_of, MsgId, MessageKind, plain_kind, PlainMessage, PlainWhat, Boot, Step, Line}
+use Rattle.dm_movelaws.proofs.Names.{◌≡◌, ℕ, ◌<◌, ◌==◌, true, false, List, [], ◌∷◌, refl, ap, ◌∙◌, sym, subst, Option, None, Some, false≢true, Pid, pid_of, MsgId, MessageKind, plain_kind, PlainMessage, PlainWhat, Boot, Step, Line}
 use Rattle.dm_movelaws.proofs.Names.{Label, Stage, Told, View, Target, NothingElse, Here, Why, OneKernel, answer_id, view_after, after_head, handled, served_told, ends_by, move_target, option_map_or, Point, moved, Part, Says, Routes}
-use Rattle.dm_movelaws.proofs.Names.{Spelled, spelled, group_of, group_is, turned, begun, begun_sane, begins, fits, PairsFit, Sane, Run, leaves_for, to_kernel, Outcome, answers_move, first_number, sort_of, is_kill, is_server, by_outcome}
-use Rattle.dm_movelaws.proofs.Names.{by_round, by_handles, by_migrates, by_calls_off, times, asked_off, Inbox, IsNet, ◌+◌, Owns, Child, preds_of, ends_with}
+use Rattle.dm_movelaws.proofs.Names.{Spelled, spelled, group_of, group_is, turned, begun, begun_sane, begins, fits, PairsFit, Sane, Run, leaves_for, to_kernel, Outcome, answers_move, first_number, sort_of, is_kill, by_outcome}
+use Rattle.dm_movelaws.proofs.Names.{by_round, by_handles, by_migrates, by_calls_off, times, asked_off, Inbox, IsNet, ◌+◌, Owns, preds_of, ends_with}
 use Rattle.dm_rule.specs.View as view
 use Rattle.dm_rule.specs.Rule as rule
 use Rattle.dm_onekernel.specs.Step as kernel
@@ -15,6 +15,7 @@ use Rattle.dm_movelaws.proofs.Preds.Lines.{Tail, head_keeps, net_preds, bag_spar
 use Rattle.dm_movelaws.proofs.Preds.Rows.{Stood, Into, tail_into, line_into, forgets_into}
 use Rattle.dm_movelaws.proofs.Preds.Turns.{Front, queued_into, held_into, frozen_into, called_into}
 use Rattle.dm_movelaws.proofs.Preds.Hears.{IntoOf, all_told, forwards_into, hears_into}
+use Rattle.dm_rule.proofs.Phases.EndLines.{kill_is}
 
 -- behind the head
 begun_stood : (n : ℕ) (pt : Point) (d : Step) → Sane pt → PairsFit pt.view → PairsFit (after_head pt.view d) → Preds n pt.view → Stood n (begun pt d)
@@ -75,10 +76,6 @@ served_into n pt i is t msg ps h there spares tail =
     let v = pt.view in
     let same = served_same (handled v i) (v.told i) (λ u told. ap is_kill (h.turn.sane.tells.kind i msg u there told) ∙ spares) in
     label_into n pt (Label.Served i) ps (stood_front n pt i is t h) same.0 same.1 (λ s step stood. tail_into n (moved pt (Line.Label (Label.Served i)) s) ps stood tail)
-
-kill_is : (k : MessageKind) → is_kill k ≡ true → k ≡ MessageKind.Kill
-kill_is MessageKind.Kill e = refl
-kill_is _ e = cc
 
 killed_into : (n : ℕ) (o : Point) (m : ℕ) (i : MsgId) (is : List MsgId) (t : Told) (msg : PlainMessage) → o.kernel.machines ≡ n → Preds n o.view → Front n (turned o m) i is t → o.kernel.bag i ≡ Some msg → is_kill (plain_kind msg.what) ≡ true
     → Into n (turned o m) (rule.says (Label.Served i) ∷ ends_with o m msg.to)
@@ -149,7 +146,7 @@ front_at n b pt m i is run machines h box =
         turn = turn;
         preds = preds_same n pt.view (turned pt m).view k.1 k.2 k.0 h;
         known_within = λ a p is_. subst (λ (x : ℕ). a < x) machines (run.found.known_within a p is_);
-        at_home = λ zero_. sym (run.found.fixed i (Inbox m) t (front_one pt.view m i is box) turn.told (ap (λ (x : ℕ). (x == 0) || is_server t.receiver) zero_));
+        at_home = λ zero_. sym (run.found.fixed i (Inbox m) t (front_one pt.view m i is box) turn.told (ap (λ (x : ℕ). x == 0) zero_));
       },
     )
 
@@ -172,8 +169,8 @@ group_preds n b pt d w e run machines h =
       asks = λ p m. (
           let x = Step.Migrate p m in
           let start = stood x (record { within = pairs.within; home = pairs.home }) in
-          by_migrates (Into n (begun pt x)) pt p (tail_into n (begun pt x) (Says (Line.Pinned p) ∷ []) start (tt, tt)) (tail_into n (begun pt x) (Says (Line.NoChild p) ∷ []) start (tt, tt))
-          (λ k off is. tail_into n (begun pt x) (Owns MessageKind.Migrate p (pt.addresses (Child k)).at ∷ []) start (tt, tt)));
+          by_migrates (Into n (begun pt x)) pt p (tail_into n (begun pt x) (Says Line.Away ∷ []) start (tt, tt)) (tail_into n (begun pt x) (Says (Line.NoChild p) ∷ []) start (tt, tt))
+          (λ a here knows. tail_into n (begun pt x) (Owns MessageKind.Migrate p a.at ∷ []) start (tt, tt)));
       calls = λ p m. (
           let x = Step.CallOff p m in
           let start = stood x (record { within = pairs.within; home = pairs.home }) in

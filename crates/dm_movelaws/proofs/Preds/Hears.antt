@@ -1,19 +1,21 @@
 -- A turn that handles a kernel's own message: what it does to what machines know and to their predecessors.
-use Rattle.dm_movelaws.proofs.Names.{◌≡◌, ℕ, ◌<◌, ◌/◌, ◌==◌, ◌&&◌, Bool, true, false, not, List, [], ◌∷◌, ◌++◌, length, refl, ap, ◌∙◌, sym, subst, arith, ⊤, if◌then◌else◌, Option, None, Some, bind, false≢true, left_true, Pid, pid_eq}
+use Rattle.dm_movelaws.proofs.Names.{◌≡◌, ℕ, ◌<◌, ◌==◌, ◌&&◌, Bool, true, false, not, List, [], ◌∷◌, ◌++◌, length, refl, ap, ◌∙◌, sym, subst, arith, ⊤, if◌then◌else◌, Option, None, Some, bind, false≢true, left_true, Pid, pid_eq}
 use Rattle.dm_movelaws.proofs.Names.{pid_eq-same, MsgId, MessageKind, Boot, Line, Stage, Told, View, About, Of, Known, Unknown, Here, Frozen, Incoming, Forward, Addresses, view_after, handled, target_of, Point, Part, Says, Again, Owns}
-use Rattle.dm_movelaws.proofs.Names.{Sender, to_kernel, forwards_on, by_forwards, accepts, takes_chunk, takes_block, tells_asker, leaves, leaves_for, told_step, told_here, told_ended, told_server, process_told, kernel_hears, hears, manager}
-use Rattle.dm_movelaws.proofs.Names.{switchboard, Spot, ids_at, standing, times, sort_of, MoveNote, Outcome, PlainProcess, chunks_of, pieces_of, state_off, memory_off, lacks_off, frozen_off, handled_spots, eq_self, turned, is_stale}
+use Rattle.dm_movelaws.proofs.Names.{Sender, to_kernel, forwards_on, by_forwards, accepts, takes_chunk, takes_block, tells_asker, leaves, leaves_for, told_step, told_here, told_ended, process_told, kernel_hears, hears, manager}
+use Rattle.dm_movelaws.proofs.Names.{Spot, ids_at, standing, times, sort_of, MoveNote, Outcome, chunks_of, pieces_of, memory_off, lacks_off, frozen_off, handled_spots, eq_self, turned, is_stale}
 use Rattle.dm_movelaws.proofs.Names.{is_waited_from, brings_piece, about_same, Queue, buried, preds_of, tells_end, bury_is}
 use Rattle.dm_rule.specs.View as view
 use Rattle.dm_rule.specs.Rule as rule
 use Rattle.dm_onekernel.specs.Step as kernel
+use Rattle.dm_movelaws.proofs.Names.{Size, size_of, is_server, moved}
+use Rattle.dm_movelaws.proofs.LastPieces.{last_chunk, state_stays, state_front, state_goes}
 use Rattle.dm_movelaws.proofs.Leading.{All}
-use Rattle.dm_movelaws.proofs.Ends.Parts.{Plain, hushed_smooth, told_by, told_one}
+use Rattle.dm_movelaws.proofs.Ends.Parts.{Plain, hushed_smooth, told_by, told_one, moves_none}
 use Rattle.dm_movelaws.proofs.Ends.Open.{first_spots}
-use Rattle.dm_movelaws.proofs.Preds.Kept.{is_word, clears, Clears, Buries, CallsOff, Preds, lasts_smooth, lasts_but}
+use Rattle.dm_movelaws.proofs.Preds.Kept.{is_word, clears, Clears, Buries, CallsOff, Preds, lasts_smooth, lasts_but, preds_same}
 use Rattle.dm_movelaws.proofs.Preds.Lines.{Tail, not_word}
-use Rattle.dm_movelaws.proofs.Preds.Rows.{Into, forgets_into, in_filter, in_range}
-use Rattle.dm_movelaws.proofs.Preds.Turns.{Front, front_into, held_into, forwarded_into, handled_into, piece_into, accepted_into, restarted_into, refused_into, called_back_into, frozen_into, left_into}
+use Rattle.dm_movelaws.proofs.Preds.Rows.{Into, Stood, line_into, tail_into, forgets_into, in_filter, in_range}
+use Rattle.dm_movelaws.proofs.Preds.Turns.{Front, plain_front, front_into, held_into, forwarded_into, handled_into, piece_into, accepted_into, restarted_into, refused_into, called_back_into, frozen_into, left_into}
 
 -- what comes of a turn, if anything does
 abbrev pub IntoOf : ℕ → Point → Option (List Part) → Type 0
@@ -68,8 +70,30 @@ accepts_into : (n : ℕ) (pt : Point) (i : MsgId) (is : List MsgId) (t : Told) (
 accepts_into n pt i is t q true x y b h kind about = accepted_into n pt i is t q b h kind about
 accepts_into n pt i is t q false x y b h kind about = front_into n pt i is t (Line.Lacks q x y) (to_kernel MessageKind.Refuse b ∷ []) h (not_word t (ap clears kind)) refl refl (lacks_off pt.view q x y) (λ m r. refl) (λ m r j. refl) (tt, tt)
 
+-- the last chunk of a server: behind step 4, which handles no message, that at the front goes
+memory_into : (n : ℕ) (pt : Point) (i : MsgId) (is : List MsgId) (q : Pid) (b : ℕ) → Stood n pt → pt.view.inbox pt.view.acting ≡ i ∷ is → Plain is_word pt.view i → Into n pt (Says (Line.Migration Stage.MemoryTaken q) ∷ to_kernel MessageKind.AllTaken b ∷ [])
+memory_into n pt i is q b h front plain =
+    let v = pt.view in
+    let l = Line.Migration Stage.MemoryTaken q in
+    line_into n pt l (to_kernel MessageKind.AllTaken b ∷ []) h.sane h.fits refl refl
+    (λ s step. preds_same n v (view_after v l) (λ m r. refl) (λ m r j. refl) (lasts_smooth None v (view_after v l) (hushed_smooth is_word v l i refl plain (first_spots v (view_after v l) i is front (memory_off v q)))) h.preds)
+    (λ s step stood. tail_into n (moved pt l s) (to_kernel MessageKind.AllTaken b ∷ []) stood (tt, tt))
+
+server_into : (n : ℕ) (pt : Point) (i : MsgId) (is : List MsgId) (t : Told) (q : Pid) (b : ℕ) → Front n pt i is t → t.kind ≡ MessageKind.State → is_server q ≡ true → Into n pt (last_chunk q b)
+server_into n pt i is t q b h kind server =
+    let v = pt.view in
+    let l = Line.Migration Stage.StateTaken q in
+    let plain = plain_front n pt i is t h (not_word t (ap clears kind)) in
+    line_into n pt l (Says (Line.Migration Stage.MemoryTaken q) ∷ to_kernel MessageKind.AllTaken b ∷ []) h.turn.sane h.turn.fits refl refl
+    (λ s step. preds_same n v (view_after v l) (λ m r. refl) (λ m r j. refl) (lasts_smooth None v (view_after v l) (moves_none is_word v l refl (λ z. state_stays v q z server))) h.preds)
+    (λ s step stood. memory_into n (moved pt l s) i is q b stood (state_front v q i is server h.turn.front) (λ u told. plain u (sym (told_by v l refl i) ∙ told)))
+
+last_into : (n : ℕ) (pt : Point) (i : MsgId) (is : List MsgId) (t : Told) (q : Pid) (b : ℕ) (c : Bool) → Front n pt i is t → t.kind ≡ MessageKind.State → is_server q ≡ c → Into n pt (if c then last_chunk q b else Says (Line.Migration Stage.StateTaken q) ∷ to_kernel MessageKind.PullBlock b ∷ [])
+last_into n pt i is t q b true h kind server = server_into n pt i is t q b h kind server
+last_into n pt i is t q b false h kind free = front_into n pt i is t (Line.Migration Stage.StateTaken q) (to_kernel MessageKind.PullBlock b ∷ []) h (not_word t (ap clears kind)) refl refl (λ z. state_goes pt.view q z free) (λ m r. refl) (λ m r j. refl) (tt, tt)
+
 chunk_into : (n : ℕ) (pt : Point) (i : MsgId) (is : List MsgId) (t : Told) (q : Pid) (last : Bool) → Front n pt i is t → t.kind ≡ MessageKind.State → Into n pt (takes_chunk i q last)
-chunk_into n pt i is t q true h kind = front_into n pt i is t (Line.Migration Stage.StateTaken q) (to_kernel MessageKind.PullBlock i.from.home ∷ []) h (not_word t (ap clears kind)) refl refl (state_off pt.view q) (λ m r. refl) (λ m r j. refl) (tt, tt)
+chunk_into n pt i is t q true h kind = last_into n pt i is t q i.from.home (is_server q) h kind refl
 chunk_into n pt i is t q false h kind = piece_into n pt i is t MessageKind.PullState i.from.home h (not_word t (ap clears kind))
 
 block_into : (n : ℕ) (pt : Point) (i : MsgId) (is : List MsgId) (t : Told) (q : Pid) (last : Bool) → Front n pt i is t → t.kind ≡ MessageKind.Memory → Into n pt (takes_block i q last)
@@ -80,7 +104,7 @@ leaves_into : (n : ℕ) (pt : Point) (i : MsgId) (is : List MsgId) (t : Told) (q
 leaves_into n pt i is t q (Frozen to) h kind about here = left_into n pt i is t q to i.from.home h kind about here
 leaves_into n pt i is t q _ h kind about here = tt
 
-told_into : (n : ℕ) (o : Point) (m : ℕ) (i : MsgId) (is : List MsgId) (t : Told) (q : Pid) (room : Bool × ℕ × ℕ) (x : PlainProcess) (k : MessageKind) → Front n (turned o m) i is t → t.kind ≡ k → t.about ≡ Of q → IntoOf n (turned o m) (told_step o m i q room x (sort_of k))
+told_into : (n : ℕ) (o : Point) (m : ℕ) (i : MsgId) (is : List MsgId) (t : Told) (q : Pid) (room : Bool × ℕ × ℕ) (x : Size) (k : MessageKind) → Front n (turned o m) i is t → t.kind ≡ k → t.about ≡ Of q → IntoOf n (turned o m) (told_step o m i q room x (sort_of k))
 told_into n o m i is t q room x MessageKind.Ask h kind about = accepts_into n (turned o m) i is t q room.0 room.1 room.2 i.from.home h kind about
 told_into n o m i is t q room x MessageKind.Refuse h kind about = refused_into n (turned o m) i is t q (tells_asker (o.kernel.notes q) Outcome.Stayed) h kind (asker_tail (o.kernel.notes q) Outcome.Stayed)
 told_into n o m i is t q room x MessageKind.CallOff h kind about = called_back_into n (turned o m) i is t q (tells_asker (o.kernel.notes q) Outcome.Stayed) h kind about (asker_tail (o.kernel.notes q) Outcome.Stayed)
@@ -93,9 +117,9 @@ told_into n o m i is t q room x MessageKind.Restart h kind about = restarted_int
 told_into n o m i is t q room x _ h kind about = tt
 
 -- at a kernel
-of_bind : {X : Type 0} (n : ℕ) (pt : Point) (x : Option X) (f : X → Option (List Part)) → ((y : X) → IntoOf n pt (f y)) → IntoOf n pt (bind x f)
+of_bind : {X : Type 0} (n : ℕ) (pt : Point) (x : Option X) (f : X → Option (List Part)) → ((y : X) → x ≡ Some y → IntoOf n pt (f y)) → IntoOf n pt (bind x f)
 of_bind n pt None f k = tt
-of_bind n pt (Some y) f k = k y
+of_bind n pt (Some y) f k = k y refl
 
 brings_clears : (k : MessageKind) → brings_piece (sort_of k) ≡ true → clears k ≡ false
 brings_clears MessageKind.State e = refl
@@ -106,11 +130,12 @@ kernel_into : (n : ℕ) (b : Boot) (o : Point) (m : ℕ) (i : MsgId) (is : List 
 kernel_into n b o m i is t (Of q) machines preds h about = of_over (tells_end (sort_of t.kind)) refl
   where
     steps : Option (List Part)
-    steps = bind (kernel.alive (o.kernel.processes q)) (λ x. told_step o m i q (rule.fits (rule.free_room b o m) (length x.memory / 256)) x (sort_of t.kind))
+    steps = bind (size_of o.kernel q) (λ x. told_step o m i q (rule.fits (rule.free_room b o m) x.blocks) x (sort_of t.kind))
 
     of_stale : (c : Bool) → is_stale o m i t.kind q ≡ c → IntoOf n (turned o m) (if c then Some (Says (Line.Stale i) ∷ []) else steps)
     of_stale true stale = handled_into n (turned o m) i is t (Line.Stale i) [] h (not_word t (brings_clears t.kind (left_true (brings_piece (sort_of t.kind)) (not (is_waited_from i.from.home (o.view.known m q))) stale))) refl refl refl tt
-    of_stale false fresh = of_bind n (turned o m) (kernel.alive (o.kernel.processes q)) (λ x. told_step o m i q (rule.fits (rule.free_room b o m) (length x.memory / 256)) x (sort_of t.kind)) (λ x. told_into n o m i is t q (rule.fits (rule.free_room b o m) (length x.memory / 256)) x t.kind h refl about)
+    of_stale false fresh =
+        of_bind n (turned o m) (size_of o.kernel q) (λ x. told_step o m i q (rule.fits (rule.free_room b o m) x.blocks) x (sort_of t.kind)) (λ x sized. told_into n o m i is t q (rule.fits (rule.free_room b o m) x.blocks) x t.kind h refl about)
 
     of_over : (c : Bool) → tells_end (sort_of t.kind) ≡ c → IntoOf n (turned o m) (if c then Some (buried o m i q) else if is_stale o m i t.kind q then Some (Says (Line.Stale i) ∷ []) else steps)
     of_over true over = buried_into n o m i is t q machines preds h (bury_is t.kind over) about
@@ -141,19 +166,9 @@ over_into n pt i is t MessageKind.Migrate h plain = handled_into n pt i is t (Li
 over_into n pt i is t MessageKind.Update h plain = handled_into n pt i is t (Line.Updated i 0) [] h plain refl refl refl tt
 over_into n pt i is t _ h plain = tt
 
-server_into : (n : ℕ) (o pt : Point) (i : MsgId) (is : List MsgId) (t : Told) (k : MessageKind) → Front n pt i is t → is_word t ≡ false → IntoOf n pt (told_server o i t (sort_of k))
-server_into n o pt i is t MessageKind.Update h plain = handled_into n pt i is t (Line.Updated i _) [] h plain refl refl refl tt
-server_into n o pt i is t _ h plain = tt
-
-own_into : (n : ℕ) (o : Point) (m : ℕ) (i : MsgId) (is : List MsgId) (t : Told) (d g : Bool) → Front n (turned o m) i is t → is_word t ≡ false
-    → IntoOf n (turned o m) (if d then told_server o i t (sort_of t.kind) else if g then told_server o i t (sort_of t.kind) else told_here o m i t (sort_of t.kind))
-own_into n o m i is t true g h plain = server_into n o (turned o m) i is t t.kind h plain
-own_into n o m i is t false true h plain = server_into n o (turned o m) i is t t.kind h plain
-own_into n o m i is t false false h plain = here_into n o m i is t t.kind h plain
-
 process_into : (n : ℕ) (o : Point) (m : ℕ) (i : MsgId) (is : List MsgId) (t : Told) (k : Known) → Front n (turned o m) i is t → is_word t ≡ false → IntoOf n (turned o m) (process_told o m i t k)
 process_into n o m i is t Unknown h plain = over_into n (turned o m) i is t t.kind h plain
-process_into n o m i is t Here h plain = own_into n o m i is t (pid_eq t.receiver switchboard) (pid_eq t.receiver manager) h plain
+process_into n o m i is t Here h plain = here_into n o m i is t t.kind h plain
 process_into n o m i is t (Frozen to) h plain = held_into n (turned o m) i is t h plain
 process_into n o m i is t (Incoming from) h plain = held_into n (turned o m) i is t h plain
 process_into n o m i is t (Forward at moves) h plain = forwards_into n (turned o m) i is t o.addresses t.kind manager at h plain

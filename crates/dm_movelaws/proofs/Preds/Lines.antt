@@ -59,7 +59,7 @@ TailLine (Line.Label l) = TailLabel l
 TailLine (Line.Idle m) = ⊤
 TailLine (Line.NoChild q) = ⊤
 TailLine (Line.NoCall q) = ⊤
-TailLine (Line.Pinned q) = ⊤
+TailLine Line.Away = ⊤
 TailLine (Line.Migration Stage.Asked q) = ⊤
 TailLine _ = ⊥
 
@@ -84,7 +84,7 @@ line_same s v (Line.Label l) h = label_same s v l h
 line_same s v (Line.Idle m) h = record { known = λ n q. refl; preds = λ n q r. refl; topic = refl; acting = refl }
 line_same s v (Line.NoChild p) h = record { known = λ n q. refl; preds = λ n q r. refl; topic = refl; acting = refl }
 line_same s v (Line.NoCall p) h = record { known = λ n q. refl; preds = λ n q r. refl; topic = refl; acting = refl }
-line_same s v (Line.Pinned p) h = record { known = λ n q. refl; preds = λ n q r. refl; topic = refl; acting = refl }
+line_same s v Line.Away h = record { known = λ n q. refl; preds = λ n q r. refl; topic = refl; acting = refl }
 line_same s v (Line.Migration Stage.Asked p) h = record { known = λ n q. refl; preds = λ n q r. refl; topic = refl; acting = refl }
 line_same s v _ h = absurd h
 
@@ -93,7 +93,7 @@ line_lasts pt s (Line.Label l) sane h is = lasts_smooth None pt.view (view_after
 line_lasts pt s (Line.Idle m) sane h is = lasts_same None pt.view
 line_lasts pt s (Line.NoChild p) sane h is = lasts_same None pt.view
 line_lasts pt s (Line.NoCall p) sane h is = lasts_same None pt.view
-line_lasts pt s (Line.Pinned p) sane h is = lasts_same None pt.view
+line_lasts pt s Line.Away sane h is = lasts_same None pt.view
 line_lasts pt s (Line.Migration Stage.Asked p) sane h is = lasts_same None pt.view
 line_lasts pt s _ sane h is = absurd h
 

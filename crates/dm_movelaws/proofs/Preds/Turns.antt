@@ -15,6 +15,9 @@ use Rattle.dm_movelaws.proofs.Ends.Hears.{called_begins, turned_back}
 use Rattle.dm_movelaws.proofs.Preds.Kept.{is_word, clears, Clears, clears_word, Buries, CallsOff, Word, IsKept, ByPred, ByWord, Preds, Lasts, lasts_trans, lasts_smooth, lasts_still, lasts_but, word_on, preds_same, Sets, preds_set, preds_knows}
 use Rattle.dm_movelaws.proofs.Preds.Lines.{Keeps, keeps_self, Tail, tail_behind, packet_keeps, not_word, word_packet}
 use Rattle.dm_movelaws.proofs.Preds.Rows.{Stood, Into, tail_into, line_into, own_put, Gone, sends_into}
+use Rattle.dm_rulelaws.proofs.Based.Noted.{or_true}
+use Rattle.dm_rulelaws.proofs.Found.Real.{or_cases}
+use Rattle.dm_rule.proofs.Phases.Rests.{eq_other}
 
 -- what stands behind the head of a turn
 pub record Front (n : ℕ) (pt : Point) (i : MsgId) (is : List MsgId) (t : Told) : Type 0 where
@@ -24,7 +27,7 @@ pub record Front (n : ℕ) (pt : Point) (i : MsgId) (is : List MsgId) (t : Told)
   -- a message for a kernel is at its home
   pub at_home : t.receiver.num ≡ 0 → t.receiver.home ≡ pt.view.acting
 
-plain_front : (n : ℕ) (pt : Point) (i : MsgId) (is : List MsgId) (t : Told) → Front n pt i is t → is_word t ≡ false → Plain is_word pt.view i
+pub plain_front : (n : ℕ) (pt : Point) (i : MsgId) (is : List MsgId) (t : Told) → Front n pt i is t → is_word t ≡ false → Plain is_word pt.view i
 plain_front n pt i is t h plain u told = subst (λ (x : Told). is_word x ≡ false) (told_one (pt.view.told i) t u h.turn.told told) plain
 
 -- a line that learns nothing, of a message that removes no forwarding address
@@ -137,14 +140,6 @@ all_leaves d to e = eq_is d to e
 front_home : (pt : Point) (i : MsgId) (is : List MsgId) (t : Told) → Turn pt i is t → front_of (pt.view.inbox pt.view.acting) ≡ i.from.home
 front_home pt i is t h = ap front_of h.front
 
-or_true : (c : Bool) → (c || true) ≡ true
-or_true true = refl
-or_true false = refl
-
-either_true : (c d : Bool) → (c || d) ≡ true → (c ≡ true) ⊎ (d ≡ true)
-either_true true d e = inl refl
-either_true false d e = inr e
-
 -- step 3: the machine that a process comes from is a predecessor
 pub accepted_into : (n : ℕ) (pt : Point) (i : MsgId) (is : List MsgId) (t : Told) (q : Pid) (b : ℕ) → Front n pt i is t → t.kind ≡ MessageKind.Ask → t.about ≡ Of q → Into n pt (Says (Line.Migration Stage.Accepted q) ∷ to_kernel MessageKind.PullState b ∷ [])
 accepted_into n pt i is t q b h kind about =
@@ -167,7 +162,7 @@ accepted_into n pt i is t q b h kind about =
       words = λ r m k apart x. ByWord (word_on None v w r m k lasts x (λ e. cc));
       others = ap (λ (c : Bool). c || v.preds a q a) far ∙ h.preds.others a q;
       none = λ e r. cc;
-      within = λ r e. elim (either_true (f == r) (v.preds a q r) e) [
+      within = λ r e. elim (or_cases (f == r) (v.preds a q r) e) [
         | inl same ↦ subst (λ (x : ℕ). x < n) (sym from ∙ eq_is f r same) less
         | inr was ↦ h.preds.within a r q was
       ];
@@ -234,7 +229,7 @@ stays_into n pt i is t q ps h far less mine tail =
       ];
       others = by_caller c f (v.preds a q) a far (h.preds.others a q);
       none = λ e r. cc;
-      within = λ r e. elim (either_true (c && (f == r)) (v.preds a q r) e) [
+      within = λ r e. elim (or_cases (c && (f == r)) (v.preds a q r) e) [
         | inl called ↦ (let k = parts c (f == r) called in subst (λ (x : ℕ). x < n) (eq_is f r k.1) (less k.0))
         | inr was ↦ h.preds.within a r q was
       ];
@@ -252,10 +247,6 @@ refused_into n pt i is t q ps h kind tail =
     let plain = plain_front n pt i is t h (not_word t (ap clears kind)) in
     stays_into n pt i is t q ps h (λ e. absurd (false≢true (sym none ∙ e))) (λ e. absurd (false≢true (sym none ∙ e)))
     (λ r m k x is_. absurd (false≢true (sym (plain x.told (ap pt.view.told (sym is_) ∙ x.is)) ∙ clears_word m k x.message x.told x.clears))) tail
-
--- the word of a calling off is that of this machine and process
-eq_swap : (m k : ℕ) → (m == k) ≡ false → (k == m) ≡ false
-eq_swap m k e = grind (arith, nat_tests)
 
 called_word : (n : ℕ) (pt : Point) (i : MsgId) (is : List MsgId) (t : Told) (q : Pid) (r : Pid) (m k : ℕ) → Front n pt i is t → t.kind ≡ MessageKind.CallOff → t.about ≡ Of q → t.about ≡ Of r → Clears m k i t → IsKept (view_after pt.view (Line.Stays q)) r m k
 called_word n pt i is t q r m k h kind about mine (Buries is_ to) = absurd (false≢true (sym (ap is_calloff is_) ∙ ap is_calloff kind))
@@ -279,7 +270,7 @@ called_back_into n pt i is t q ps h kind about tail =
     let u = at_front pt i is t q MessageKind.CallOff h.turn kind refl refl about in
     let f = front_of (v.inbox v.acting) in
     let from : f ≡ u.d = front_home pt i is t h.turn ∙ ap (λ (r : Pid). r.home) u.from in
-    let far : (f == v.acting) ≡ false = ap (λ (x : ℕ). x == v.acting) from ∙ ap (λ (x : ℕ). u.d == x) u.acting ∙ eq_swap u.s u.d u.apart in
+    let far : (f == v.acting) ≡ false = ap (λ (x : ℕ). x == v.acting) from ∙ ap (λ (x : ℕ). u.d == x) u.acting ∙ eq_other u.s u.d u.apart in
     let less : f < n = subst (λ (x : ℕ). x < n) (sym from) (h.known_within u.d q (calls_known u.s (v.known u.d q) (target_is v q i MessageKind.CallOff u))) in
     stays_into n pt i is t q ps h (λ e. far) (λ e. less)
     (λ r m k x same.

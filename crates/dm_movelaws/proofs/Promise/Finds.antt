@@ -4,9 +4,11 @@ use Rattle.dm_movelaws.proofs.Names.{LeadsBy, update_of, nat_tests, ◌⊎◌, �
 use Rattle.dm_movelaws.proofs.Names.{label_of, kernel_after, Part, Says, Again, Owns, spelled, times, sends_on, is_put, not_true, parts, touches, pair_same, fits_as, PairsFit, fits_put, fits_packet, Sane, Sayable, part_sane, Steps, said_by}
 use Rattle.dm_movelaws.proofs.Names.{OneKernel, PlainMessage, Addresses, Sender, forwards_on, Loose, loose_round, loose_handles, by_forwards, seen, Label, PlainWhat, to_kernel, moved, leaves_for, move_target, Target, length, NothingElse}
 use Rattle.dm_movelaws.proofs.Names.{if◌then◌else◌, manager, Known, Unknown, Here, Forward, process_told, both_lists, last_point, by_hears, behind_count, place_told, answers_move, Outcome, false≢true, migrates, not_kernels, IsNet, fits}
-use Rattle.dm_movelaws.proofs.Names.{under_way, kernels_by, begun, begun_sane, by_migrates, by_outcome, group_is, topic_by, deliver_off, migrate_off, tick_off, turn_off, option_map_or, called_parts, by_calls_off, told_server, pid_eq}
-use Rattle.dm_movelaws.proofs.Names.{switchboard, sort_of, updates, preds_of, buries, buries_kept}
+use Rattle.dm_movelaws.proofs.Names.{under_way, kernels_by, begun, begun_sane, by_migrates, by_outcome, group_is, topic_by, deliver_off, migrate_off, tick_off, turn_off, option_map_or, called_parts, by_calls_off}
+use Rattle.dm_movelaws.proofs.Names.{preds_of, buries, buries_kept}
 use Rattle.dm_rule.specs.Rule as rule
+use Rattle.dm_movelaws.proofs.Names.{is_server}
+use Rattle.dm_movelaws.proofs.LastPieces.{last_chunk, state_front}
 use Rattle.dm_movelaws.proofs.After.{after-append, group_after}
 use Rattle.dm_movelaws.proofs.Promise.Spots.{Stands, Spares, line_stands, label_stands, put_this, put_stands, packet_stands, Fronts, about_stands, Front, sent_stands, held_this, fronts, net_stands, stands_off, lines_told}
 use Rattle.dm_movelaws.proofs.Promise.Spots.{told_stays}
@@ -33,7 +35,7 @@ is_loose_line Line.Nothing = true
 is_loose_line (Line.Resent m n) = true
 is_loose_line (Line.NoChild p) = true
 is_loose_line (Line.NoCall p) = true
-is_loose_line (Line.Pinned p) = true
+is_loose_line Line.Away = true
 is_loose_line (Line.Migration Stage.Asked p) = true
 is_loose_line (Line.Migration Stage.Left p) = true
 is_loose_line _ = false
@@ -169,6 +171,20 @@ pub record Other (j : MsgId) (pt : Point) (i : MsgId) : Type 0 where
   pub front : Front pt.view j
   pub apart : id_eq i j ≡ false
 
+-- the last chunk of a server: the front stays until step 5
+server_goes : (j : MsgId) (t : Told) (pt : Point) (p : Pid) (b : ℕ) → is_server p ≡ true → Waits j t pt → Front pt.view j → Goes j pt (last_chunk p b)
+server_goes j t pt p b server h front w is =
+    let l = Line.Migration Stage.StateTaken p in
+    let k = Line.Migration Stage.MemoryTaken p in
+    let end = to_kernel MessageKind.AllTaken b ∷ [] in
+    let n = next_of pt (Says l) (Says k ∷ end) w is in
+    let s = said_by pt n.next l n.steps in
+    let base = part_base j t pt n.next (Says l) front h.base n.steps in
+    let stands = part_stands j t pt n.next (Says l) front h.base h.stands n.steps in
+    let need : Front n.next.view j = subst (λ (x : Point). Front x.view j) s.is (record { first = front.first; rest = front.rest; is = state_front pt.view p front.first front.rest server front.is; apart = front.apart }) in
+    let o = next_of n.next (Says k) end n.rest n.more in
+    inl (subst (λ (x : Point). Stands x.view j) (o.point ∙ n.point) (loose_stands end j t o.next o.rest refl (part_base j t n.next o.next (Says k) need base o.steps) (part_stands j t n.next o.next (Says k) need base stands o.steps) o.more))
+
 -- a process leaves
 sent_goes : (j : MsgId) (t : Told) (pt : Point) (i : MsgId) (p : Pid) (ids : List MsgId) (to : ℕ) → both_lists pt.view p ≡ ids → Waits j t pt → Other j pt i → Goes j pt (Says (Line.SentOn p (length ids)) ∷ sends_on to ids ++ Says (Line.Migration Stage.Left p) ∷ to_kernel MessageKind.Restart i.from.home ∷ [])
 sent_goes j t pt i p ids to are h k w is =
@@ -199,6 +215,7 @@ hears_goes j t pt b o m i q ps are h k =
         state = proto MessageKind.State;
         next_chunk = proto MessageKind.PullState;
         last_chunk = first_row j t pt (Says (Line.Migration Stage.StateTaken p)) (to_kernel MessageKind.PullBlock home ∷ []) h k.front refl;
+        server_chunk = λ server. server_goes j t pt p home server h k.front;
         memory = proto MessageKind.Memory;
         next_block = proto MessageKind.PullBlock;
         last_block = first_row j t pt (Says (Line.Migration Stage.MemoryTaken p)) (to_kernel MessageKind.AllTaken home ∷ []) h k.front refl;
@@ -245,14 +262,9 @@ forwarded_goes j t pt to h w is =
     let last : k.next ≡ k.rest.point = last_point k.next k.rest k.more in
     inl (subst (λ (x : Point). Stands x.view j) (last ∙ end) there)
 
-own_this : (j : MsgId) (pt o : Point) (p q : Pid) (place : Place) (d e : Bool) → GoesOf j pt (if d then told_server o j (update_of p q place) (sort_of MessageKind.Update) else if e then told_server o j (update_of p q place) (sort_of MessageKind.Update) else Some (updates o j (update_of p q place)))
-own_this j pt o p q place true e = updates_this j pt _
-own_this j pt o p q place false true = updates_this j pt _
-own_this j pt o p q place false false = updates_this j pt _
-
 process_this : (j : MsgId) (pt o : Point) (m : ℕ) (p q : Pid) (place : Place) (c : Known) → Waits j (update_of p q place) pt → GoesOf j pt (process_told o m j (update_of p q place) c)
 process_this j pt o m p q place Unknown h = updates_this j pt 0
-process_this j pt o m p q place Here h = own_this j pt o p q place (pid_eq p switchboard) (pid_eq p manager)
+process_this j pt o m p q place Here h = updates_this j pt _
 process_this j pt o m p q place (Forward at moves) h = forwarded_goes j (update_of p q place) pt at h
 process_this j pt o m p q place _ h = search (arith, next_of, said_by, held_this, loose_stands, base_says)
 

@@ -7,6 +7,7 @@ use Rattle.dm_rule.proofs.Homes.Serves.{Named}
 use Rattle.dm_onekernel.specs.Manager as manage
 use Rattle.dm_onekernel.specs.Step as kernel
 use Rattle.dm_rule.specs.Addresses as addresses
+pub use Rattle.dm_rulelaws.proofs.Calling.{neither}
 
 abbrev pub holders : List Gets → List Holder
 holders [] = []
@@ -90,9 +91,6 @@ ends_same v w a b id None = refl
 ends_same v w a b id (Some p) = refl
 
 -- Where no line gives a slot an address, a link in it was there before.
-
-pub neither : (c d : Bool) → (c || d) ≡ false → (c ≡ false) × (d ≡ false)
-neither c d e = grind (arith, nat_tests)
 
 pub not_given : (a : Addresses) (h : Holder) (gs : List Gets) → gives_to h gs ≡ false → given a gs h ≡ a h
 not_given a h [] e = refl

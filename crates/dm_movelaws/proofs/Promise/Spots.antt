@@ -1,18 +1,21 @@
 -- A message that stands somewhere is left standing by each line that is no label, unless it is the one that the line takes.
 use Rattle.dm_movelaws.proofs.Names.{◌≡◌, ℕ, ◌+◌, ◌≤◌, ◌==◌, ◌&&◌, false, List, [], ◌∷◌, ◌++◌, refl, ap, ◌∙◌, sym, subst, inl, inr, arith, ⊤, cases_Bool, Pid, pid_eq, MsgId, id_eq, Label, pid_eq-is, Line, Stage, View, view_after, handled}
 use Rattle.dm_movelaws.proofs.Names.{handled_first, released, receiver_of, Spot, Queue, Held, Inbox, Untaken, times, ids_at, standing, at_machine_at, at_machine_off, at_record_off, eq_is, parts, times-append, first_off, home_again, act_of}
-use Rattle.dm_movelaws.proofs.Names.{home_off, proto_off, accepted_off, state_off, memory_off, lacks_off, left_off, restarted_off, handled_spots, queued_spots, held_spots, forwarded_spots, ◌⊎◌, Bool, true, not, filter, if◌then◌else◌}
+use Rattle.dm_movelaws.proofs.Names.{home_off, proto_off, accepted_off, memory_off, lacks_off, left_off, restarted_off, handled_spots, queued_spots, held_spots, forwarded_spots, ◌⊎◌, Bool, true, not, filter, if◌then◌else◌}
 use Rattle.dm_movelaws.proofs.Names.{Option, None, Some, false≢true, MessageKind, OneKernel, id_eq-is, id_eq-same, Step, Load, Told, NothingElse, is_kernels, taken_id, held_for, Point, out_of, not_kernels, gone_in, at_record_at, not_true}
 use Rattle.dm_movelaws.proofs.Names.{one_of, PairsFit, served_keeps, serving_off, created_off, IsNetLine, early_off, acked_off, emptied, both_lists, both_times, dropped_spots, put_spots, taken_calm, put_spot, put_there, Sane, packet_off}
 use Rattle.dm_movelaws.proofs.Names.{received_spots, ended_off, nat_tests, About, Target, aim, about_off, after_step, Sound, bind-is, Addresses, Holder, Slot, Gets, gives, all_follow, first_gives, leads_to, updated, addresses_by, ascends}
 use Rattle.dm_movelaws.proofs.Names.{label_of, kernel_after, after_line, after, moved, hushed, put_at, put_told_off, gives_to, fills, Unfilled, first_kept, length, slice_get, Boot, IsValid, Leads, first_point, Trails, AddressesOn, is_made}
 use Rattle.dm_movelaws.proofs.Names.{is_moving, IsThere, unheld, called_off}
+use Rattle.dm_movelaws.proofs.Names.{is_server}
+use Rattle.dm_movelaws.proofs.LastPieces.{state_stays, state_goes}
 use Rattle.dm_rule.proofs.Moves.Sent.{sent_off}
 use Rattle.dm_movelaws.proofs.Promise.Slots.{not_given, step_pending, led_before}
 use Rattle.dm_onekernel.specs.Step as kernel
 use Rattle.dm_rule.specs.View as view
 use Rattle.dm_movelaws.proofs.Burials.{buried_spots}
 use Rattle.dm_laws.proofs.Equal as equal
+use Rattle.dm_rule.proofs.Moves.Rows.{for_off}
 
 pub record Stands (v : View) (j : MsgId) : Type 0 where
   pub spot : Spot
@@ -42,10 +45,6 @@ Fronts v j a = Front v j
 pub fronts : (v : View) (j : MsgId) (a : About) → Front v j → Fronts v j a
 fronts v j (Target m) f = tt
 fronts v j _ f = f
-
-for_off : (v : View) (p : Pid) (to : ℕ) (z : Spot) → ids_at (view.frozen_for v p to) z ≡ ids_at v z
-for_off v p to (Queue m q) = refl
-for_off v p to _ = refl
 
 sets_stands : (v : View) (j : MsgId) (p : Pid) (a : About) → Fronts v j a → Stands v j → Stands (view.sets_off v p a) j
 sets_stands v j p (Target m) f h = stands_off v (view.sets_off v p (Target m)) j (λ z. for_off v p m z) h
@@ -129,6 +128,11 @@ stays_off v p (Held m q) = refl
 stays_off v p (Inbox m) = refl
 stays_off v p (Untaken a b) = refl
 
+-- step 4 of a server takes no message
+state_stands : (v : View) (j : MsgId) (p : Pid) (c : Bool) → is_server p ≡ c → Front v j → Stands v j → Stands (view_after v (Line.Migration Stage.StateTaken p)) j
+state_stands v j p true server f h = stands_off v (view_after v (Line.Migration Stage.StateTaken p)) j (λ z. state_stays v p z server) h
+state_stands v j p false free f h = stands_off (handled_first v) (view_after v (Line.Migration Stage.StateTaken p)) j (λ z. state_goes v p z free) (first_stands v j f h)
+
 -- lines that are no steps
 pub line_stands : (v : View) (j : MsgId) (l : Line) → Spares j v l → ((x : Label) → l ≡ Line.Label x → Stands (view_after v l) j) → Stands v j → Stands (view_after v l) j
 line_stands v j (Line.Label x) e step_ h = step_ x refl
@@ -138,7 +142,7 @@ line_stands v j Line.Nothing e step_ h = h
 line_stands v j (Line.Resent m n) e step_ h = h
 line_stands v j (Line.NoChild p) e step_ h = h
 line_stands v j (Line.NoCall p) e step_ h = h
-line_stands v j (Line.Pinned p) e step_ h = h
+line_stands v j Line.Away e step_ h = h
 line_stands v j (Line.Migration Stage.Asked p) e step_ h = h
 line_stands v j (Line.Migration Stage.Left p) e step_ h = stands_off v (view_after v (Line.Migration Stage.Left p)) j (λ z. left_off v p z) h
 line_stands v j (Line.Queued i) e step_ h = stands_as (handled v i) (view_after v (Line.Queued i)) j (λ z. queued_spots (handled v i) i j (receiver_of (v.told i)) e z) (stands_as v (handled v i) j (λ z. handled_spots v i j e z) h)
@@ -152,7 +156,7 @@ line_stands v j (Line.Stale i) e step_ h = stands_as v (handled v i) j (λ z. ha
 line_stands v j (Line.Proto i) e step_ h = stands_off (handled v i) (view_after v (Line.Proto i)) j (λ z. proto_off (handled v i) (v.told i) z) (stands_as v (handled v i) j (λ z. handled_spots v i j e z) h)
 line_stands v j (Line.Migration Stage.Frozen p) e step_ h = sets_stands v j p v.topic e h
 line_stands v j (Line.Migration Stage.Accepted p) e step_ h = stands_off (handled_first v) (view_after v (Line.Migration Stage.Accepted p)) j (λ z. accepted_off v p z) (first_stands v j e h)
-line_stands v j (Line.Migration Stage.StateTaken p) e step_ h = stands_off (handled_first v) (view_after v (Line.Migration Stage.StateTaken p)) j (λ z. state_off v p z) (first_stands v j e h)
+line_stands v j (Line.Migration Stage.StateTaken p) e step_ h = state_stands v j p (is_server p) refl e h
 line_stands v j (Line.Migration Stage.MemoryTaken p) e step_ h = stands_off (handled_first v) (view_after v (Line.Migration Stage.MemoryTaken p)) j (λ z. memory_off v p z) (first_stands v j e h)
 line_stands v j (Line.Migration Stage.Restarted p) e step_ h = stands_off (released (home_again (handled_first v) p) p) (view_after v (Line.Migration Stage.Restarted p)) j (λ z. restarted_off v p z) (back_stands v p j e h)
 line_stands v j (Line.Lacks p a b) e step_ h = stands_off (handled_first v) (view_after v (Line.Lacks p a b)) j (λ z. lacks_off v p a b z) (first_stands v j e h)

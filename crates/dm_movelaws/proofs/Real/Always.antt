@@ -1,11 +1,13 @@
 -- Each line keeps that whoever is told of is somebody.
+use Rattle.dm_rule.specs.Migrating.{Size, size_of, process_size, board_size, manager_size}
 use Rattle.dm_movelaws.proofs.Names.{◌≡◌, ◌≢◌, ℕ, ◌<◌, ◌≤◌, true, false, ◌∷◌, is_some, refl, ap, ◌∙◌, sym, subst, inl, inr, arith, Option, Some, cases_Bool, nat_tests, Pid, MsgId, Line, PlainMessage, PlainWhat, Boot, manager, Life}
-use Rattle.dm_movelaws.proofs.Names.{OneKernel, Step, IsStep, Spelled, Point, group_of, Inbox, times, View, Told, Unknown, Here, after_head, is_kernels, actor, group_is, outcome_sayable, line_within, is_server, WhatFits, begun, begun_sane}
+use Rattle.dm_movelaws.proofs.Names.{OneKernel, Step, IsStep, Spelled, Point, group_of, Inbox, times, View, Told, Unknown, Here, after_head, is_kernels, group_is, outcome_sayable, line_within, is_server, WhatFits, begun, begun_sane}
 use Rattle.dm_movelaws.proofs.Names.{named_real, times_self, Run, IsReal, Kernel, Server, Made, IsAboutReal, RealAlways, or_cases, from_kernel, run_always, ◌⊎◌, List, None, false≢true, MessageKind, plain_kind, Stage, Label, id_eq-is}
 use Rattle.dm_movelaws.proofs.Names.{LifeGrows, after_step, Sound, Receiver, Part, Says, Routes, Again, Owns, Transmits, spelled, label_of, kernel_after, moved, About, view_after, handled, receiver_of, own_id, not_kernels, grown_none}
 use Rattle.dm_movelaws.proofs.Names.{put_at, PacketsKeep, put_told_off, Sane, AllSayable, label_topic, Within, has_bytes, KernelFits, step_constant, fits_step, queued_topic, held_topic, taken_topic, told_kept, [], ◌++◌, ⊤, pid_eq-same}
 use Rattle.dm_movelaws.proofs.Names.{alive-is, to_kernel, sends_on, IsNetLine, by_migrates, by_outcome, by_forwards, by_hears, topic_by, sets, InOrder, Loose, loose_handles, HeadIn, counts, first_point, is_put, NothingElse, move_target}
 use Rattle.dm_movelaws.proofs.Names.{option_map_or, by_calls_off, Incoming, preds_of, buries_kept, Of, step_ends, step_serves, served_told, killed_or, is_over}
+use Rattle.dm_movelaws.proofs.Names.{Bool, PlainProcess, if◌then◌else◌, option_map, pid_eq, switchboard, ◌||◌}
 use Rattle.dm_rulelaws.proofs.Found.Core as core
 use Rattle.dm_rule.specs.View as view
 use Rattle.dm_onekernel.specs.Step as kernel
@@ -16,6 +18,7 @@ use Rattle.dm_movelaws.proofs.Leading.{Behind, sane_lead, All, Saying, net_says}
 use Rattle.dm_movelaws.proofs.Stages.Rows.{MildLine, AllMild}
 use Rattle.dm_movelaws.proofs.Stages.Steps.{round_mild}
 use Rattle.dm_movelaws.proofs.NumbersAlways.{bag_counted, told_counted}
+pub use Rattle.dm_rulelaws.proofs.Found.Always.{over_some as over_made}
 
 -- a row a line, seen from where its group begins
 abbrev pub LineReal : Point → Line → Type 0
@@ -74,12 +77,26 @@ sends_real o to (i ∷ is) ps h = (tt, sends_real o to is ps h)
 abbrev pub KnownReal : Point → Type 0
 KnownReal o = (m : ℕ) (q : Pid) → o.view.known m q ≢ Unknown → IsReal o.kernel q
 
+-- what has a size lives, or is a server
+sized_real : (s : OneKernel) (p : Pid) (x : Size) → size_of s p ≡ Some x → IsReal s p
+sized_real s p x = by (pid_eq p switchboard) (pid_eq p manager) refl refl
+  where
+    by_life : (o : Option PlainProcess) → kernel.alive (s.processes p) ≡ o → option_map process_size o ≡ Some x → IsReal s p
+    by_life None alive e = (let f : None ≡ Some x = e in cc)
+    by_life (Some y) alive e = Made (ap is_some (alive-is (s.processes p) y alive))
+
+    by : (c d : Bool) → pid_eq p switchboard ≡ c → pid_eq p manager ≡ d
+        → (if c then Some (record { state = board_size s.switchboard; blocks = 0 }) else if d then Some (record { state = manager_size s.manager; blocks = 0 }) else option_map process_size (kernel.alive (s.processes p))) ≡ Some x → IsReal s p
+    by true d is other e = Server (ap (λ (c : Bool). c || pid_eq p manager) is)
+    by false true off is e = Server (ap (λ (c : Bool). c || pid_eq p manager) off ∙ is)
+    by false false off other e = by_life (kernel.alive (s.processes p)) refl e
+
 hears_real : (b : Boot) (o : Point) (m : ℕ) (i : MsgId) (q : Option Told) (ps : List Part) → FrontTold o (Some i) → KnownReal o → rule.hears b o m i q ≡ Some ps → AllReal o ps
 hears_real b o m i q ps told here = by_hears (AllReal o) b o m i q ps (λ t is. record {
   stale = λ p about late. (tt, tt);
   buried = λ p about kind. (tt, buries_kept (AllReal o) tt (λ to xs h. (tt, h)) (preds_of o m p));
-  told = λ p x about alive due. (
-      let h : IsReal o.kernel p = Made (ap is_some (alive-is (o.kernel.processes p) x alive)) in
+  told = λ p x about sized due. (
+      let h = sized_real o.kernel p x sized in
       record {
         accepted = λ ask. (h, (tt, tt));
         lacks = λ slots blocks. (h, (tt, tt));
@@ -89,6 +106,7 @@ hears_real b o m i q ps told here = by_hears (AllReal o) b o m i q ps (λ t is. 
         state = (tt, (tt, tt));
         next_chunk = (tt, (tt, tt));
         last_chunk = (h, (tt, tt));
+        server_chunk = λ server. (h, (h, (tt, tt)));
         memory = (tt, (tt, tt));
         next_block = (tt, (tt, tt));
         last_block = (h, (tt, tt));
@@ -301,10 +319,6 @@ known_real b pt n p run some = elim (cases_Bool (is_server p)) [
   | inr other ↦ Made (grind (arith, nat_tests, (run.based.known.agree n p other)))
 ]
 
-pub over_made : (o : Option Life) → is_over o ≡ true → is_some o ≡ true
-over_made (Some l) e = refl
-over_made None e = absurd (false≢true e)
-
 core_real : (b : Boot) (pt : Point) (q : Pid) → Run b pt → core.IsReal pt.kernel.machines pt.kernel.processes pt.view q → IsReal pt.kernel q
 core_real b pt q run h = elim h [
   | inl fixed ↦ grind (arith, nat_tests, or_cases)
@@ -326,14 +340,11 @@ receivers b pt run h i t told = elim (cases_Bool (is_kernels i)) [
   | inr other ↦ h.receiver i t told other
 ]
 
-pub head_less : (n : ℕ) (d : Step) → IsStep n d → actor d < n
-head_less n d h = grind (arith, nat_tests)
-
 begins_real : (b : Boot) (pt : Point) (d : Step) → IsStep pt.kernel.machines d → Run b pt → RealAt pt → Reals pt (begun pt d)
 begins_real b pt d fit run h =
     let same : (i : MsgId) → (after_head pt.view d).told i ≡ pt.view.told i = told_by pt.view (Line.Head d) refl in
     record {
-      within = line_within pt.kernel.machines pt.view (Line.Head d) (head_less pt.kernel.machines d fit) (record { known = λ m q some. run.found.known_within m q some; acting = run.kept.acting });
+      within = line_within pt.kernel.machines pt.view (Line.Head d) fit (record { known = λ m q some. run.found.known_within m q some; acting = run.kept.acting });
       fits = run.based.fits;
       order = run.based.pending;
       rises = rises_same pt.kernel;

@@ -8,6 +8,7 @@ use Rattle.dm_rule.specs.View as view
 use Rattle.dm_movelaws.proofs.Leading.{All, Behind, Saying, AllLines, whatever_put, parts_lead, parts_say}
 use Rattle.dm_movelaws.proofs.Ends.Parts.{is_migrate, told_by}
 use Rattle.dm_movelaws.proofs.Asked.Following.{one_for}
+use Rattle.dm_rule.proofs.Phases.EndLines.{taken_known}
 
 -- it is frozen or accepted
 abbrev pub sets_moving : Pid → Line → Bool
@@ -66,10 +67,6 @@ stage_back v q _ m p off e = refl
 
 pub head_known : (v : View) (d : Step) (m : ℕ) (p : Pid) → (after_head v d).known m p ≡ v.known m p
 head_known v d m p = (let f : (after_head v d).known ≡ v.known = grind (arith, nat_tests) in ap (λ (f : ℕ → Pid → Known). f m p) f)
-
-taken_known : (v : View) (b : ℕ) (o : Option MsgId) (m : ℕ) (p : Pid) → (view.taken_id v b o).known m p ≡ v.known m p
-taken_known v b None m p = refl
-taken_known v b (Some i) m p = refl
 
 line_back : (v : View) (l : Line) (m : ℕ) (p : Pid) → sets_moving p l ≡ false → is_moving ((view_after v l).known m p) ≡ true → (view_after v l).known m p ≡ v.known m p
 line_back v (Line.Label l) m p off e = label_back v l m p e

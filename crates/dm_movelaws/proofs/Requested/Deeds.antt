@@ -1,8 +1,11 @@
 -- The groups of the rule by what they do with requests to move and with processes that move: none of it, or one of eight deeds.
-use Rattle.dm_movelaws.proofs.Names.{◌≡◌, ◌⊎◌, ℕ, ◌==◌, ◌/◌, Bool, true, false, List, [], ◌∷◌, ◌++◌, length, refl, ap, ⊤, inl, inr, if◌then◌else◌, Option, None, Some, Pid, pid_eq, MsgId, MessageKind, Outcome, Boot, PlainMessage, PlainWhat}
-use Rattle.dm_movelaws.proofs.Names.{PlainProcess, Label, Line, Stage, Step, Told, About, Of, Known, Unknown, Here, Frozen, Incoming, Forward, Addresses, target_of, Point, Part, Says, Owns, bind, bind-is, to_kernel, forwards_on, leaves_for}
-use Rattle.dm_movelaws.proofs.Names.{answers_move, tells_asker, gives_piece, takes_chunk, takes_block, chunks_of, pieces_of, leaves, left_parts, sends_on, called_parts, told_step, updates, told_here, told_ended, told_server, process_told}
-use Rattle.dm_movelaws.proofs.Names.{buried, preds_of, tells_end, is_stale, ends_with, sort_of, plain_kind, manager, switchboard, IsNetLine, IsNet, by_net, Child, by_round, by_handles, by_forwards, by_migrates, by_calls_off, by_outcome}
+use Rattle.dm_rule.specs.Migrating.{Size, size_of}
+use Rattle.dm_movelaws.proofs.LastPieces.{last_chunk}
+use Rattle.dm_movelaws.proofs.Names.{is_server}
+use Rattle.dm_movelaws.proofs.Names.{◌≡◌, ◌⊎◌, ℕ, ◌==◌, Bool, true, false, List, [], ◌∷◌, ◌++◌, refl, ap, ⊤, inl, inr, if◌then◌else◌, Option, None, Some, Pid, MsgId, MessageKind, Outcome, Boot, PlainMessage, PlainWhat}
+use Rattle.dm_movelaws.proofs.Names.{Label, Line, Stage, Step, Told, About, Of, Known, Unknown, Here, Frozen, Incoming, Forward, Addresses, target_of, Point, Part, Says, Owns, bind, bind-is, to_kernel, forwards_on, leaves_for}
+use Rattle.dm_movelaws.proofs.Names.{answers_move, tells_asker, gives_piece, takes_chunk, takes_block, chunks_of, pieces_of, leaves, left_parts, sends_on, called_parts, told_step, updates, told_here, told_ended, process_told}
+use Rattle.dm_movelaws.proofs.Names.{buried, preds_of, tells_end, is_stale, ends_with, sort_of, plain_kind, manager, IsNetLine, IsNet, by_net, by_round, by_handles, by_forwards, by_migrates, by_calls_off, by_outcome}
 use Rattle.dm_movelaws.proofs.Names.{buries_kept, ends_kept, nat_tests, arith, kernel_hears, by_test, TurnsBack}
 use Rattle.dm_rule.proofs.Hearing.{given}
 use Rattle.dm_onekernel.specs.Step as kernel
@@ -125,7 +128,7 @@ leaves_deed : (o : Point) (m : ℕ) (i : MsgId) (p : Pid) (ids : List MsgId) (k 
 leaves_deed o m i p ids (Frozen to) ps e = given (Deed o (Step.Turn m)) (left_parts i p ids to) ps (Mild (refl, sends_mild to ids (Says (Line.Migration Stage.Left p) ∷ to_kernel MessageKind.Restart i.from.home ∷ []) (refl, (refl, tt)))) e
 leaves_deed o m i p ids _ ps e = cc
 
-told_deed : (o : Point) (m : ℕ) (i : MsgId) (is : List MsgId) (t : Told) (p : Pid) (room : Bool × ℕ × ℕ) (x : PlainProcess) (k : MessageKind) (ps : List Part) → AtFront o (Step.Turn m) m i is t → t.about ≡ Of p → t.kind ≡ k → told_step o m i p room x (sort_of k) ≡ Some ps
+told_deed : (o : Point) (m : ℕ) (i : MsgId) (is : List MsgId) (t : Told) (p : Pid) (room : Bool × ℕ × ℕ) (x : Size) (k : MessageKind) (ps : List Part) → AtFront o (Step.Turn m) m i is t → t.about ≡ Of p → t.kind ≡ k → told_step o m i p room x (sort_of k) ≡ Some ps
     → Deed o (Step.Turn m) ps
 told_deed o m i is t p room x MessageKind.Ask ps f about kind e =
     let D = Deed o (Step.Turn m) in
@@ -143,9 +146,11 @@ told_deed o m i is t p room x MessageKind.PullState ps f about kind e = given (D
 told_deed o m i is t p room x MessageKind.PullBlock ps f about kind e = given (Deed o (Step.Turn m)) (gives_piece i MessageKind.Memory) ps (Mild (refl, (refl, tt))) e
 told_deed o m i is t p room x MessageKind.State ps f about kind e =
     let D = Deed o (Step.Turn m) in
-    let last = Says (Line.Migration Stage.StateTaken p) ∷ to_kernel MessageKind.PullBlock i.from.home ∷ [] in
+    let block = Says (Line.Migration Stage.StateTaken p) ∷ to_kernel MessageKind.PullBlock i.from.home ∷ [] in
+    let last = if is_server p then last_chunk p i.from.home else block in
+    let takes : D last = by_test D (is_server p) (last_chunk p i.from.home) block (Mild (refl, (refl, (refl, tt)))) (Mild (refl, (refl, tt))) in
     let next = Says (Line.Proto i) ∷ to_kernel MessageKind.PullState i.from.home ∷ [] in
-    given D (takes_chunk i p (o.view.asked p == chunks_of x)) ps (by_test D (o.view.asked p == chunks_of x) last next (Mild (refl, (refl, tt))) (Mild (refl, (refl, tt)))) e
+    given D (takes_chunk i p (o.view.asked p == chunks_of x)) ps (by_test D (o.view.asked p == chunks_of x) last next takes (Mild (refl, (refl, tt)))) e
 told_deed o m i is t p room x MessageKind.Memory ps f about kind e =
     let D = Deed o (Step.Turn m) in
     let last = Says (Line.Migration Stage.MemoryTaken p) ∷ to_kernel MessageKind.AllTaken i.from.home ∷ [] in
@@ -155,16 +160,16 @@ told_deed o m i is t p room x MessageKind.AllTaken ps f about kind e = leaves_de
 told_deed o m i is t p room x _ ps f about kind e = cc
 
 due_deed : (b : Boot) (o : Point) (m : ℕ) (i : MsgId) (is : List MsgId) (t : Told) (p : Pid) (stale : Bool) (ps : List Part) → AtFront o (Step.Turn m) m i is t → t.about ≡ Of p
-    → (if stale then Some (Says (Line.Stale i) ∷ []) else bind (kernel.alive (o.kernel.processes p)) (λ x. told_step o m i p (rule.fits (rule.free_room b o m) (length x.memory / 256)) x (sort_of t.kind))) ≡ Some ps → Deed o (Step.Turn m) ps
+    → (if stale then Some (Says (Line.Stale i) ∷ []) else bind (size_of o.kernel p) (λ x. told_step o m i p (rule.fits (rule.free_room b o m) x.blocks) x (sort_of t.kind))) ≡ Some ps → Deed o (Step.Turn m) ps
 due_deed b o m i is t p true ps f about e = given (Deed o (Step.Turn m)) (Says (Line.Stale i) ∷ []) ps (Mild (refl, tt)) e
 due_deed b o m i is t p false ps f about e =
-    let (x, alive, steps) = bind-is (kernel.alive (o.kernel.processes p)) (λ (x : PlainProcess). told_step o m i p (rule.fits (rule.free_room b o m) (length x.memory / 256)) x (sort_of t.kind)) ps e in
-    told_deed o m i is t p (rule.fits (rule.free_room b o m) (length x.memory / 256)) x t.kind ps f about refl steps
+    let (x, sized, steps) = bind-is (size_of o.kernel p) (λ (x : Size). told_step o m i p (rule.fits (rule.free_room b o m) x.blocks) x (sort_of t.kind)) ps e in
+    told_deed o m i is t p (rule.fits (rule.free_room b o m) x.blocks) x t.kind ps f about refl steps
 
 over_deed : (b : Boot) (o : Point) (m : ℕ) (i : MsgId) (is : List MsgId) (t : Told) (p : Pid) (over : Bool) (ps : List Part) → AtFront o (Step.Turn m) m i is t → t.about ≡ Of p
     → (if over then Some (buried o m i p)
     else if is_stale o m i t.kind p then Some (Says (Line.Stale i) ∷ [])
-    else bind (kernel.alive (o.kernel.processes p)) (λ x. told_step o m i p (rule.fits (rule.free_room b o m) (length x.memory / 256)) x (sort_of t.kind))) ≡ Some ps
+    else bind (size_of o.kernel p) (λ x. told_step o m i p (rule.fits (rule.free_room b o m) x.blocks) x (sort_of t.kind))) ≡ Some ps
     → Deed o (Step.Turn m) ps
 over_deed b o m i is t p true ps f about e = given (Deed o (Step.Turn m)) (buried o m i p) ps (Mild (refl, buries_kept AllMild tt (λ to xs h. (refl, h)) (preds_of o m p))) e
 over_deed b o m i is t p false ps f about e = due_deed b o m i is t p (is_stale o m i t.kind p) ps f about e
@@ -174,10 +179,6 @@ kernel_deed b o m i is t (Of p) ps f about e = over_deed b o m i is t p (tells_e
 kernel_deed b o m i is t _ ps f about e = cc
 
 -- at a process or a server
-server_deed : (o : Point) (m : ℕ) (i : MsgId) (t : Told) (k : MessageKind) (ps : List Part) → told_server o i t (sort_of k) ≡ Some ps → Deed o (Step.Turn m) ps
-server_deed o m i t MessageKind.Update ps e = given (Deed o (Step.Turn m)) (updates o i t) ps (Mild (refl, tt)) e
-server_deed o m i t _ ps e = cc
-
 here_deed : (o : Point) (m : ℕ) (i : MsgId) (is : List MsgId) (t : Told) (k : MessageKind) (ps : List Part) → AtFront o (Step.Turn m) m i is t → t.kind ≡ k → o.view.known m t.receiver ≡ Here → told_here o m i t (sort_of k) ≡ Some ps → Deed o (Step.Turn m) ps
 here_deed o m i is t MessageKind.Migrate ps f kind here e =
     let D = Deed o (Step.Turn m) in
@@ -192,14 +193,8 @@ ended_deed o m i MessageKind.Migrate ps e = given (Deed o (Step.Turn m)) (Says (
 ended_deed o m i MessageKind.Update ps e = given (Deed o (Step.Turn m)) (Says (Line.Updated i 0) ∷ []) ps (Mild (refl, tt)) e
 ended_deed o m i _ ps e = cc
 
-own_deed : (o : Point) (m : ℕ) (i : MsgId) (is : List MsgId) (t : Told) (d g : Bool) (ps : List Part) → AtFront o (Step.Turn m) m i is t → o.view.known m t.receiver ≡ Here
-    → (if d then told_server o i t (sort_of t.kind) else if g then told_server o i t (sort_of t.kind) else told_here o m i t (sort_of t.kind)) ≡ Some ps → Deed o (Step.Turn m) ps
-own_deed o m i is t true g ps f here e = server_deed o m i t t.kind ps e
-own_deed o m i is t false true ps f here e = server_deed o m i t t.kind ps e
-own_deed o m i is t false false ps f here e = here_deed o m i is t t.kind ps f refl here e
-
 process_deed : (o : Point) (m : ℕ) (i : MsgId) (is : List MsgId) (t : Told) (k : Known) (ps : List Part) → AtFront o (Step.Turn m) m i is t → o.view.known m t.receiver ≡ k → process_told o m i t k ≡ Some ps → Deed o (Step.Turn m) ps
-process_deed o m i is t Here ps f known e = own_deed o m i is t (pid_eq t.receiver switchboard) (pid_eq t.receiver manager) ps f known e
+process_deed o m i is t Here ps f known e = here_deed o m i is t t.kind ps f refl known e
 process_deed o m i is t Unknown ps f known e = ended_deed o m i t.kind ps e
 process_deed o m i is t (Frozen to) ps f known e = given (Deed o (Step.Turn m)) (Says (Line.Held i) ∷ []) ps (Mild (refl, tt)) e
 process_deed o m i is t (Incoming from) ps f known e = given (Deed o (Step.Turn m)) (Says (Line.Held i) ∷ []) ps (Mild (refl, tt)) e
@@ -226,6 +221,6 @@ outcome_deed b o d ps = by_outcome (Deed o) b o d ps (record {
   hears = λ m i is xs box none e. hears_deed b o m i is (o.view.told i) xs box refl e;
   ticks = λ m xs net. Mild (net_parts_mild xs net);
   delivers = λ a c k xs net. Mild (net_parts_mild xs net);
-  asks = λ p m. by_migrates (Deed o (Step.Migrate p m)) o p (Mild (refl, tt)) (Mild (refl, tt)) (λ n off is. Directs p m (o.addresses (Child n)).at refl refl);
+  asks = λ p m. by_migrates (Deed o (Step.Migrate p m)) o p (Mild (refl, tt)) (Mild (refl, tt)) (λ a here knows. Directs p m a.at refl refl);
   calls = λ p m. by_calls_off (Deed o (Step.CallOff p m)) o m p (Mild (refl, tt)) (λ from is come. Calls m p from refl is refl);
 })

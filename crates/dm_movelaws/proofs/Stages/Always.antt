@@ -1,9 +1,9 @@
 -- Each group keeps the marks of each process in order, and so they are wherever the rule leads.
-use Rattle.dm_movelaws.proofs.Names.{◌≡◌, ℕ, ◌==◌, Bool, true, false, List, [], ◌∷◌, refl, ap, ◌∙◌, sym, subst, length, ◌/◌, if◌then◌else◌, Option, None, Some, Pid, pid_eq, MsgId, PlainMessage, Boot, switchboard, manager, Step, Line, View}
-use Rattle.dm_movelaws.proofs.Names.{Told, About, Of, Known, first_view, target_of, is_between, is_due, Point, first_point, Part, Spelled, spelled, told_step, told_server, process_told, migrates, group_of, bind-is, IsNet, not_true}
+use Rattle.dm_movelaws.proofs.Names.{◌≡◌, ℕ, ◌==◌, Bool, true, false, List, [], ◌∷◌, refl, ap, ◌∙◌, sym, subst, if◌then◌else◌, Option, None, Some, Pid, MsgId, PlainMessage, Boot, manager, Step, Line, View}
+use Rattle.dm_movelaws.proofs.Names.{Told, About, Of, Known, first_view, target_of, is_between, is_due, Point, first_point, Part, Spelled, spelled, told_step, process_told, migrates, group_of, bind-is, IsNet, not_true}
 use Rattle.dm_movelaws.proofs.Names.{front_way, Phased, phased_start, phased_group, Calm, calm_same, calm_in, told_some, head_calm, net_parts, migrates_quiet, Tame, plain_in_bag, parts_settle, InPhases, State, PairsFit, Sane, LeadsBy}
 use Rattle.dm_movelaws.proofs.Names.{begun, begun_sane, Mark, marks, in_order, StepsInOrder, plain_by, by_migrates, by_outcome, nat_tests, arith, NothingElse, Label, Says, said_by, moved, calm_about, view_after, line_calm, part_sane}
-use Rattle.dm_movelaws.proofs.Names.{move_target, Target, Here, sort_of, MessageKind, option_map_or, IsValid, inl, inr, cases_Bool, false≢true, PlainProcess, gives_piece, to_kernel, label_of, is_put, touches, Spot, ids_at, handled}
+use Rattle.dm_movelaws.proofs.Names.{move_target, Target, Here, sort_of, MessageKind, option_map_or, IsValid, inl, inr, cases_Bool, false≢true, gives_piece, to_kernel, label_of, is_put, touches, Spot, ids_at, handled}
 use Rattle.dm_movelaws.proofs.Names.{proto_off, proto_known, ◌&&◌, not, pulls_piece, brings_piece, is_stale, is_waited_from, Due, Remains, due, due_or_left, stale_left, calm_phases, called_parts, by_calls_off, rooted, bind, told_here}
 use Rattle.dm_movelaws.proofs.Names.{by_known, told_ended, buried, tells_end, bury_is, buries_kept, preds_of}
 use Rattle.dm_onekernel.specs.Step as kernel
@@ -12,6 +12,7 @@ use Rattle.dm_rule.proofs.Groups as groups
 use Rattle.dm_movelaws.proofs.Stages.Spares.{mark_in, spares_same, spares_calm, Marked, none_marked, order-append, open-append, open_after, marks-append, marks_of, group_says}
 use Rattle.dm_movelaws.proofs.Stages.Rows.{about_others, plain_others, row_marked, AllMild, mild_marks, net_marks, TameAt, parts_spare}
 use Rattle.dm_movelaws.proofs.Stages.Steps.{freezes_row, setting_row, told_marked, round_mild, handles_mild, Hears, Calms, Freezes, Handled, Spared, SetsOff, freezes, forwards_mild}
+use Rattle.dm_movelaws.proofs.Names.{Size, size_of}
 use Rattle.dm_movelaws.proofs.Leading.{next_of, line_fits}
 use Rattle.dm_movelaws.proofs.Stages.Rows.{Handling, left_row, line_and_parts}
 use Rattle.dm_movelaws.proofs.Stages.Steps.{heard_due, called_row}
@@ -45,7 +46,7 @@ remains_marked o pt m i is t l ps w h front told r none quiet calm off known unm
     (left_row pt i is t r.p (h.phases.of r.p) l ps w (record { sane = h.sane; fits = h.fits; front = front; others = about_others pt.view i t r.p told r.about }) (h.phases.each r.p) told r.left none quiet calm off known unmarked mild n)
 
 -- what asks for a piece, and is left over, is answered all the same
-pull_marked : (o pt : Point) (m : ℕ) (i : MsgId) (is : List MsgId) (t : Told) (q : Pid) (room : Bool × ℕ × ℕ) (x : PlainProcess) (k : MessageKind) (ps : List Part) (w : Spelled) → (h : Turning o pt m) → pt.view.inbox pt.view.acting ≡ i ∷ is → pt.view.told i ≡ Some t → Remains pt i t h.phases
+pull_marked : (o pt : Point) (m : ℕ) (i : MsgId) (is : List MsgId) (t : Told) (q : Pid) (room : Bool × ℕ × ℕ) (x : Size) (k : MessageKind) (ps : List Part) (w : Spelled) → (h : Turning o pt m) → pt.view.inbox pt.view.acting ≡ i ∷ is → pt.view.told i ≡ Some t → Remains pt i t h.phases
     → pulls_piece (sort_of k) ≡ true → told_step o m i q room x (sort_of k) ≡ Some ps → spelled pt ps ≡ Some w → MarkedBy pt w ps
 pull_marked o pt m i is t q room x k ps w h front told r pulls e n = by_pull k pulls e
   where
@@ -59,10 +60,10 @@ pull_marked o pt m i is t q room x k ps w h front told r pulls e n = by_pull k p
     by_pull _ pulls e = absurd (false≢true pulls)
 
 -- and what isn't stale
-fresh_marked : (b : Boot) (o pt : Point) (m : ℕ) (i : MsgId) (is : List MsgId) (t : Told) (q : Pid) (x : PlainProcess) (ps : List Part) (w : Spelled) → Turning o pt m → pt.view.inbox pt.view.acting ≡ i ∷ is → pt.view.told i ≡ Some t → t.about ≡ Of q → is_stale pt pt.view.acting i t.kind q ≡ false
-    → told_step o m i q (rule.fits (rule.free_room b o m) (length x.memory / 256)) x (sort_of t.kind) ≡ Some ps → spelled pt ps ≡ Some w → MarkedBy pt w ps
+fresh_marked : (b : Boot) (o pt : Point) (m : ℕ) (i : MsgId) (is : List MsgId) (t : Told) (q : Pid) (x : Size) (ps : List Part) (w : Spelled) → Turning o pt m → pt.view.inbox pt.view.acting ≡ i ∷ is → pt.view.told i ≡ Some t → t.about ≡ Of q → is_stale pt pt.view.acting i t.kind q ≡ false
+    → told_step o m i q (rule.fits (rule.free_room b o m) x.blocks) x (sort_of t.kind) ≡ Some ps → spelled pt ps ≡ Some w → MarkedBy pt w ps
 fresh_marked b o pt m i is t q x ps w h front told about fresh e n =
-    let room = rule.fits (rule.free_room b o m) (length x.memory / 256) in
+    let room = rule.fits (rule.free_room b o m) x.blocks in
     let handling : Handling pt i is q = record { sane = h.sane; fits = h.fits; front = front; others = about_others pt.view i t q told about } in
     let due_marked : Due pt i t h.phases → MarkedBy pt w ps = λ u. told_marked o pt m i is t q room x t.kind ps w (heard_due pt i is t q handling h.phases told about u) refl e n in
     let told_plain : (k : MessageKind) → is_between k ≡ false → told_step o m i q room x (sort_of k) ≡ Some ps → ⊥ = λ k plain e. grind (arith, nat_tests) in
@@ -78,18 +79,18 @@ fresh_marked b o pt m i is t q x ps w h front told about fresh e n =
     ]
 
 piece_marked : (b : Boot) (o pt : Point) (m : ℕ) (i : MsgId) (is : List MsgId) (t : Told) (q : Pid) (stale : Bool) (ps : List Part) (w : Spelled) → Turning o pt m → pt.view.inbox pt.view.acting ≡ i ∷ is → pt.view.told i ≡ Some t → t.about ≡ Of q → is_stale pt pt.view.acting i t.kind q ≡ stale
-    → (if stale then Some (Says (Line.Stale i) ∷ []) else bind (kernel.alive (o.kernel.processes q)) (λ x. told_step o m i q (rule.fits (rule.free_room b o m) (length x.memory / 256)) x (sort_of t.kind))) ≡ Some ps → spelled pt ps ≡ Some w → MarkedBy pt w ps
+    → (if stale then Some (Says (Line.Stale i) ∷ []) else bind (size_of o.kernel q) (λ x. told_step o m i q (rule.fits (rule.free_room b o m) x.blocks) x (sort_of t.kind))) ≡ Some ps → spelled pt ps ≡ Some w → MarkedBy pt w ps
 piece_marked b o pt m i is t q true ps w h front told about stale e n =
     let f : Says (Line.Stale i) ∷ [] ≡ ps = cc in
     let r = stale_left pt i is t h.phases q front told about stale in
     subst (MarkedBy pt w) f (remains_marked o pt m i is t (Line.Stale i) [] w h front told r refl refl refl (λ z. refl) (λ n p. refl) (λ p. refl) (λ p. tt) (ap (spelled pt) f ∙ n))
 piece_marked b o pt m i is t q false ps w h front told about stale e n =
-    let (x, there, last) = bind-is (kernel.alive (o.kernel.processes q)) (λ x. told_step o m i q (rule.fits (rule.free_room b o m) (length x.memory / 256)) x (sort_of t.kind)) ps e in
+    let (x, there, last) = bind-is (size_of o.kernel q) (λ x. told_step o m i q (rule.fits (rule.free_room b o m) x.blocks) x (sort_of t.kind)) ps e in
     fresh_marked b o pt m i is t q x ps w h front told about stale last n
 
 -- that a process has ended, or something of its migration
 over_marked : (b : Boot) (o pt : Point) (m : ℕ) (i : MsgId) (is : List MsgId) (t : Told) (q : Pid) (over : Bool) (ps : List Part) (w : Spelled) → Turning o pt m → pt.view.inbox pt.view.acting ≡ i ∷ is → pt.view.told i ≡ Some t → t.about ≡ Of q → is_stale pt pt.view.acting i t.kind q ≡ is_stale o m i t.kind q → tells_end (sort_of t.kind) ≡ over
-    → (if over then Some (buried o m i q) else if is_stale o m i t.kind q then Some (Says (Line.Stale i) ∷ []) else bind (kernel.alive (o.kernel.processes q)) (λ x. told_step o m i q (rule.fits (rule.free_room b o m) (length x.memory / 256)) x (sort_of t.kind))) ≡ Some ps → spelled pt ps ≡ Some w → MarkedBy pt w ps
+    → (if over then Some (buried o m i q) else if is_stale o m i t.kind q then Some (Says (Line.Stale i) ∷ []) else bind (size_of o.kernel q) (λ x. told_step o m i q (rule.fits (rule.free_room b o m) x.blocks) x (sort_of t.kind))) ≡ Some ps → spelled pt ps ≡ Some w → MarkedBy pt w ps
 over_marked b o pt m i is t q true ps w h front told about same over e n =
     let f : buried o m i q ≡ ps = cc in
     subst (MarkedBy pt w) f (mild_marked pt (Some i) (buried o m i q) w h.sane h.fits (tame_front pt.view i (record { what = t; told = told; plain = ap is_between (bury_is t.kind over) }))
@@ -113,13 +114,8 @@ process_marked o pt m i is t k ps w h front told plain known (Freezes here are) 
     (row_marked pt.view w.point.view q (λ p. marks_of p (freezes q to))
     (freezes_row pt i is q to w (record { sane = h.sane; fits = h.fits; front = front; others = plain_others pt.view i t q told plain }) h.topic here_ (ap (spelled pt) (sym are) ∙ n)))
 
-own_hears : (o : Point) (m : ℕ) (id : MsgId) (t : Told) (d g : Bool) (ps : List Part) → (if d then told_server o id t (sort_of t.kind) else if g then told_server o id t (sort_of t.kind) else told_here o m id t (sort_of t.kind)) ≡ Some ps → Hears Here id t ps
-own_hears o m id t true g ps e = let mild : (k : MessageKind) → told_server o id t (sort_of k) ≡ Some ps → (me : Pid) → AllMild me (Some id) ps = λ k f me. grind (arith, nat_tests) in Calms (mild t.kind e)
-own_hears o m id t false true ps e = let mild : (k : MessageKind) → told_server o id t (sort_of k) ≡ Some ps → (me : Pid) → AllMild me (Some id) ps = λ k f me. grind (arith, nat_tests) in Calms (mild t.kind e)
-own_hears o m id t false false ps e = let own : (k : MessageKind) → told_here o m id t (sort_of k) ≡ Some ps → Hears Here id t ps = λ k f. grind (arith, nat_tests) in own t.kind e
-
 process_hears : (o : Point) (m : ℕ) (id : MsgId) (t : Told) (k : Known) (ps : List Part) → process_told o m id t k ≡ Some ps → Hears k id t ps
-process_hears o m id t Here ps e = own_hears o m id t (pid_eq t.receiver switchboard) (pid_eq t.receiver manager) ps e
+process_hears o m id t Here ps e = let own : (k : MessageKind) → told_here o m id t (sort_of k) ≡ Some ps → Hears Here id t ps = λ k f. grind (arith, nat_tests) in own t.kind e
 process_hears o m id t k ps e = let away : (l : Known) → by_known o id t.kind manager None (told_ended id (sort_of t.kind)) l ≡ Some ps → Hears l id t ps = λ l f. grind (arith, nat_tests, forwards_mild) in away k e
 
 hears_by : (b : Boot) (o pt : Point) (m : ℕ) (i : MsgId) (is : List MsgId) (t : Told) (c : Bool) (ps : List Part) (w : Spelled) → Turning o pt m → (t.receiver.num == 0) ≡ c → pt.view.inbox pt.view.acting ≡ i ∷ is → pt.view.told i ≡ Some t

@@ -11,6 +11,7 @@ use Rattle.dm_movelaws.proofs.Stages.Spares.{is_settled, mark_of, Spares, TokenO
 use Rattle.dm_movelaws.proofs.Burials.{buried_spots, buried_at}
 use Rattle.dm_movelaws.proofs.Leading.{line_fits, whatever_put, part_leads}
 use Rattle.dm_movelaws.proofs.Stages.Spares.{IsAwaited, SparesBut, but_trans, left_marked}
+use Rattle.dm_rule.proofs.Phases.Quiet.{gone_plain}
 
 -- what is said of the message at the front, and steps of another process that handle no message
 abbrev pub MildLine : Pid → Option MsgId → Line → Type 0
@@ -53,9 +54,6 @@ net_marks p _ h = absurd h.0
 -- a message of the bag is handled
 settled_at : (f : ℕ → Pid → Known) (a : ℕ) (q : Pid) (x : Known) (m : ℕ) (p : Pid) → is_settled x ≡ true → is_settled (f m p) ≡ true → is_settled (at_record f a q x m p) ≡ true
 settled_at f a q x m p e h = grind (arith, nat_tests)
-
-gone_plain : (pt : Point) (s : OneKernel) (l : Label) (i : MsgId) → Sane pt → kernel.step pt.kernel l ≡ Some s → out_of l ≡ Some i → Plain pt.view i
-gone_plain pt s l i h is goes = let g = gone_in pt.kernel s l i is goes in plain_in_bag pt i g.message h g.there
 
 -- a line that is no put, by what stands where behind it
 pub spares_line : (v : View) (l : Line) (p : Pid) → is_put l ≡ false → ((j : MsgId) (t : Told) (z : Spot) → v.told j ≡ Some t → is_between t.kind ≡ true → t.about ≡ Of p → 1 ≤ standing v j z → (y : Spot) × (1 ≤ standing (view_after v l) j y))

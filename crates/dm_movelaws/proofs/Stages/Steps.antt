@@ -2,13 +2,16 @@
 use Rattle.dm_movelaws.proofs.Names.{◌≡◌, ℕ, ◌≤◌, true, false, List, [], ◌∷◌, ◌++◌, length, refl, ap, ◌∙◌, sym, subst, Option, None, Some, false≢true, Pid, pid_of, pid_eq, MsgId, MessageKind, Stage, Line, at_record, Told, Of, Known, Here}
 use Rattle.dm_movelaws.proofs.Names.{Frozen, view_after, handled_first, released, to_kernel, sends_on, is_between, Point, label_of, moved, Part, Says, Spelled, spelled, Spot, Queue, Held, Inbox, Untaken, times, ids_at, standing}
 use Rattle.dm_movelaws.proofs.Names.{pid_eq-swap, is_put, at_record_at, first_off, home_again, home_off, frozen_off, line_next, touches, handled_spots, record_off, InPhases, queued_plain, held_plain, Mark, Reached, mark_for, with_mark}
-use Rattle.dm_movelaws.proofs.Names.{in_order, released_on, nat_tests, arith, ◌==◌, Bool, PlainProcess, Incoming, handled, front_of, accepts, gives_piece, takes_chunk, takes_block, told_step, chunks_of, pieces_of, Owns, accepted_off}
-use Rattle.dm_movelaws.proofs.Names.{state_off, memory_off, lacks_off, proto_off, restarted_off, proto_known, Lacking, Staying, leaves, sets, MoveNote, Outcome, NothingElse, tells_asker, aim, PairsFit, Sane, Target, asked_off, target_of}
+use Rattle.dm_movelaws.proofs.Names.{in_order, released_on, nat_tests, arith, ◌==◌, Bool, Incoming, handled, front_of, accepts, gives_piece, takes_chunk, takes_block, told_step, chunks_of, pieces_of, Owns, accepted_off}
+use Rattle.dm_movelaws.proofs.Names.{memory_off, lacks_off, proto_off, restarted_off, proto_known, Lacking, Staying, leaves, sets, MoveNote, Outcome, NothingElse, tells_asker, aim, PairsFit, Sane, Target, asked_off, target_of}
 use Rattle.dm_movelaws.proofs.Names.{forwards_on, plain_kind, PlainMessage, Boot, goes_round, handles, Addresses, loose_round, loose_handles, by_forwards, Label, PlainWhat, sort_of, Phase, Moves, IsIn, sender_in, pulls_piece, brings_piece}
 use Rattle.dm_movelaws.proofs.Names.{Due, piece_ways, pull_ways, proto_acting, Calling, kind_comes, kind_leaves, is_away, knows, left_true, not, if◌then◌else◌, is_due, View, ComesIn, goes_back, called_parts, ⊤, About, Again}
-use Rattle.dm_movelaws.proofs.Stages.Spares.{is_settled, Spares, spares_same, TokenOf, HasMark, token_mark, here_mark, some_marked, mark_of, Marked, open_after, marks_of, mark_same, mark_other, marks_sent}
-use Rattle.dm_movelaws.proofs.Stages.Rows.{Handling, first_spares, owns_token, line_sane, line_and_parts, Row, split, front_token, row_marked, answer, AllMild, spares_line, same_spot, Kept, parts_spare}
+use Rattle.dm_movelaws.proofs.Stages.Spares.{is_settled, Spares, spares_same, spares_trans, TokenOf, HasMark, token_mark, here_mark, some_marked, mark_of, Marked, open_after, marks_of, mark_same, mark_other, marks_sent}
+use Rattle.dm_movelaws.proofs.Stages.Rows.{about_others, Handling, first_spares, owns_token, line_sane, line_and_parts, Row, split, front_token, row_marked, answer, AllMild, spares_line, same_spot, Kept, parts_spare}
 use Rattle.dm_movelaws.proofs.Leading.{line_fits, asker_known}
+use Rattle.dm_movelaws.proofs.Names.{Size, is_server}
+use Rattle.dm_movelaws.proofs.LastPieces.{last_chunk, state_stays, state_front, state_goes}
+use Rattle.dm_movelaws.proofs.Ends.Parts.{told_by}
 use Rattle.dm_rule.specs.Rule as rule
 use Rattle.dm_movelaws.proofs.Stages.Rows.{of_same, Expects, no_piece}
 use Rattle.dm_movelaws.proofs.Stages.Spares.{IsAwaited, is_piece, pulls_is_piece, brings_is_piece, phase_awaited}
@@ -257,9 +260,55 @@ proto_row pt i is t q j k w h e between next same expects n p =
     (answer pt i is q (Line.Proto i) k i.from.home [] (mark_of j) w h.at refl refl refl (λ z. proto_off (handled v i) (v.told i) z) (λ m r apart. proto_known (handled v i) (v.told i) m r)
     (let e_ : (view_after pt.view (Line.Proto i)).topic ≡ Of q = search in e_) next (λ r apart. refl) refl (heard_mark pt i is t q j h e between) refl same still n) p
 
+-- the last chunk of a server: behind step 4, which handles no message, step 5 handles it
+server_spares : (pt : Point) (i : MsgId) (is : List MsgId) (t : Told) (q p : Pid) (b : ℕ) (w : Spelled) → Heard pt i is t q → is_server q ≡ true → pid_eq q p ≡ false → spelled pt (last_chunk q b) ≡ Some w → Spares pt.view w.point.view p
+server_spares pt i is t q p b w h server apart e =
+    let v = pt.view in
+    let l = Line.Migration Stage.StateTaken q in
+    let k = Line.Migration Stage.MemoryTaken q in
+    let end = to_kernel MessageKind.AllTaken b ∷ [] in
+    let n = line_next pt l (Says k ∷ end) w refl e in
+    let next = moved pt l pt.kernel in
+    let u = next.view in
+    let sane = line_sane pt l refl refl h.at.sane in
+    let fits = line_fits pt pt.kernel l refl h.at.fits in
+    let front = state_front v q i is server h.at.front in
+    let handling : Handling next i is q = record { sane = sane; fits = fits; front = front; others = about_others u i t q (told_by v l refl i ∙ h.told) h.about } in
+    let first : Spares v u p = spares_line v l p refl (λ j a z told b_ of st. same_spot v u j z (ap (times j) (state_stays v q z server)) st) (λ m known. known) in
+    let rest : Spares u n.rest.point.view p = line_and_parts next p k end n.rest refl refl refl sane fits (first_spares next i is q p k handling apart refl (λ z. memory_off u q z ∙ first_off u i is front z) (λ m. refl)) (tt, tt) n.more in
+    subst (λ (x : Point). Spares v x.view p) n.point (spares_trans v u n.rest.point.view p first rest)
+
+server_row : (pt : Point) (i : MsgId) (is : List MsgId) (t : Told) (q : Pid) (b : ℕ) (w : Spelled) → Heard pt i is t q → t.kind ≡ MessageKind.State → is_server q ≡ true → spelled pt (last_chunk q b) ≡ Some w → Row pt.view w.point.view q (λ p. marks_of p (last_chunk q b))
+server_row pt i is t q b w h kind server e =
+    let v = pt.view in
+    let l = Line.Migration Stage.StateTaken q in
+    let k = Line.Migration Stage.MemoryTaken q in
+    let end = to_kernel MessageKind.AllTaken b ∷ [] in
+    let n = line_next pt l (Says k ∷ end) w refl e in
+    let next = moved pt l pt.kernel in
+    let o = line_next next k end n.rest refl n.more in
+    let last = moved next k next.kernel in
+    let sane_ = line_sane next k refl refl (line_sane pt l refl refl h.at.sane) in
+    let token : TokenOf w.point.view q MessageKind.AllTaken = subst (λ (y : Point). TokenOf y.view q MessageKind.AllTaken) (o.point ∙ n.point)
+    (owns_token last MessageKind.AllTaken q b o.rest sane_ (line_fits next next.kernel k refl (line_fits pt pt.kernel l refl h.at.fits)) refl refl (no_piece last.view q MessageKind.AllTaken b refl refl) o.more) in
+    let server_marked : marks_of q (last_chunk q b) ≡ Reached 4 ∷ Reached 5 ∷ [] = mark_same q (Reached 4) (mark_for q q (Reached 5) []) ∙ ap (λ (ms : List Mark). Reached 4 ∷ ms) (mark_same q (Reached 5) []) in
+    record {
+      others = λ p apart. ((let e_ : marks_of p (last_chunk q b) ≡ [] = grind (arith, nat_tests, pid_eq-swap, mark_other) in e_), server_spares pt i is t q p b w h server apart e);
+      mine = some_marked v w.point.view q (marks_of q (last_chunk q b)) (Reached 4 ∷ Reached 5 ∷ []) (Some (Reached 3)) (Some (Reached 5)) server_marked (heard_mark pt i is t q MessageKind.State h kind refl) (token_mark w.point.view q MessageKind.AllTaken token) refl refl;
+    }
+
+last_row : (pt : Point) (i : MsgId) (is : List MsgId) (t : Told) (q : Pid) (c : Bool) (w : Spelled) → Heard pt i is t q → t.kind ≡ MessageKind.State → is_server q ≡ c
+    → spelled pt (if c then last_chunk q i.from.home else Says (Line.Migration Stage.StateTaken q) ∷ to_kernel MessageKind.PullBlock i.from.home ∷ []) ≡ Some w
+    → MarkedBy pt w (if c then last_chunk q i.from.home else Says (Line.Migration Stage.StateTaken q) ∷ to_kernel MessageKind.PullBlock i.from.home ∷ [])
+last_row pt i is t q true w h e server n = row_marked pt.view w.point.view q (λ r. marks_of r (last_chunk q i.from.home)) (server_row pt i is t q i.from.home w h e server n)
+last_row pt i is t q false w h e free n =
+    let v = pt.view in
+    let l = Line.Migration Stage.StateTaken q in
+    step_row pt i is t q l (Reached 4) MessageKind.State MessageKind.PullBlock w h e refl refl refl refl (λ z. state_goes v q z free) (λ m r apart. refl) refl refl (λ r. refl) refl refl
+    (record { pulls = λ pulls. h.waits (ap (λ (k : MessageKind). brings_piece (sort_of k)) e); brings = λ brings. absurd (false≢true brings) }) n
+
 chunk_row : (pt : Point) (i : MsgId) (is : List MsgId) (t : Told) (q : Pid) (last : Bool) (w : Spelled) → Heard pt i is t q → t.kind ≡ MessageKind.State → spelled pt (takes_chunk i q last) ≡ Some w → MarkedBy pt w (takes_chunk i q last)
-chunk_row pt i is t q true w h e = step_row pt i is t q (Line.Migration Stage.StateTaken q) (Reached 4) MessageKind.State MessageKind.PullBlock w h e refl refl refl refl (state_off pt.view q) (λ m r apart. refl) refl refl (λ r. refl) refl refl
-    (record { pulls = λ pulls. h.waits (ap (λ (k : MessageKind). brings_piece (sort_of k)) e); brings = λ brings. absurd (false≢true brings) })
+chunk_row pt i is t q true w h e = last_row pt i is t q (is_server q) w h e refl
 chunk_row pt i is t q false w h e = proto_row pt i is t q MessageKind.State MessageKind.PullState w h e refl refl refl
     (record { pulls = λ pulls. h.waits (ap (λ (k : MessageKind). brings_piece (sort_of k)) e); brings = λ brings. absurd (false≢true brings) })
 
@@ -295,7 +344,7 @@ sends_piece : (pt : Point) (i : MsgId) (is : List MsgId) (t : Told) (q : Pid) (j
 sends_piece pt i is t q j k h e pulls none = record { pulls = λ x. absurd (false≢true (sym none ∙ x)); brings = λ brings. h.asks (ap (λ (x : MessageKind). pulls_piece (sort_of x)) e ∙ pulls) }
 
 -- by its kind
-pub told_marked : (o pt : Point) (m : ℕ) (i : MsgId) (is : List MsgId) (t : Told) (q : Pid) (room : Bool × ℕ × ℕ) (x : PlainProcess) (k : MessageKind) (parts : List Part) (w : Spelled) → Heard pt i is t q → t.kind ≡ k → told_step o m i q room x (sort_of k) ≡ Some parts → spelled pt parts ≡ Some w
+pub told_marked : (o pt : Point) (m : ℕ) (i : MsgId) (is : List MsgId) (t : Told) (q : Pid) (room : Bool × ℕ × ℕ) (x : Size) (k : MessageKind) (parts : List Part) (w : Spelled) → Heard pt i is t q → t.kind ≡ k → told_step o m i q room x (sort_of k) ≡ Some parts → spelled pt parts ≡ Some w
     → (p : Pid) → Marked pt.view w.point.view p (marks_of p parts)
 told_marked o pt m i is t q room x MessageKind.Ask parts w h e g n = given pt w (accepts i.from.home q room.0 room.1 room.2) parts g (λ s. asked_row pt i is t q room.0 room.1 room.2 w h e s) n
 told_marked o pt m i is t q room x MessageKind.Refuse parts w h e g n = given pt w (Says (Line.Stays q) ∷ tells_asker (o.kernel.notes q) Outcome.Stayed) parts g (λ s. stays_row pt i is t q MessageKind.Refuse (o.kernel.notes q) w h e refl refl s) n

@@ -8,6 +8,7 @@ use Rattle.dm_movelaws.proofs.Names.{loose_handles, by_forwards, by_hears, by_mi
 use Rattle.dm_rule.specs.View as view
 use Rattle.dm_rule.specs.Rule as rule
 use Rattle.dm_onekernel.specs.Step as kernel
+use Rattle.dm_rule.proofs.Apart.Steps.{spares_of}
 use Rattle.dm_movelaws.proofs.Burials.{buried_others}
 use Rattle.dm_movelaws.proofs.Leading.{All, Saying, net_says, part_leads, whatever_put}
 use Rattle.dm_movelaws.proofs.Stages.Spares.{mark_part, marks_of, group_says, is_settled, rest_settled, Waits}
@@ -95,7 +96,7 @@ part_waits pt next x p m y told sane off ok else_ none steps h =
     part_leads (Waited m p y told) waited_packet pt next x
     (whatever_put (Waited m p y told) pt x
     (λ l is s step. (
-      line_waits pt s l p m y told sane h.1 (subst (Saying (Elsewhere told p)) is else_) (subst (SparesPart pt.kernel p) is off) (subst (λ (z : Part). mark_part p z [] ≡ []) is none) step h.0,
+      line_waits pt s l p m y told sane h.1 (subst (Saying (Elsewhere told p)) is else_) (spares_of pt.kernel p (label_of l) (subst (SparesPart pt.kernel p) is off)) (subst (λ (z : Part). mark_part p z [] ≡ []) is none) step h.0,
       (λ i t e. ap (λ (f : MsgId → Option Told). f i) (hushed pt.view l (subst Sayable is ok)).told ∙ h.1 i t e),
     ))
     (λ b i k q. (h.0, λ j t e. told_kept pt.view pt.view.acting b i k q j t (h.1 j t e))) h) steps
@@ -148,6 +149,7 @@ outcome_else p b o d ps others is =
           state = (tt, (tt, tt));
           next_chunk = (tt, (tt, tt));
           last_chunk = (tt, (tt, tt));
+          server_chunk = λ server. (tt, (tt, (tt, tt)));
           memory = (tt, (tt, tt));
           next_block = (tt, (tt, tt));
           last_block = (tt, (tt, tt));

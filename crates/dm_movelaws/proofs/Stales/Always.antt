@@ -10,6 +10,7 @@ use Rattle.dm_movelaws.proofs.Ends.Always.{empty_by, quiet_own, step_for}
 use Rattle.dm_movelaws.proofs.Stales.Weighs.{weight, takes_on, takes_all, lines_weigh}
 use Rattle.dm_movelaws.proofs.Stales.Pieces.{piece_for, piece_between}
 use Rattle.dm_movelaws.proofs.Stales.Groups.{group_flows}
+use Rattle.dm_movelaws.proofs.At.RestPairs.{within_run}
 
 -- what comes of a run
 record Ran (p : Pid) (b : Boot) (pt end : Point) (ls : List Line) (n : ℕ) : Type 0 where
@@ -35,7 +36,7 @@ ran p b [] pt end ls ids valid h sources opens (none, at) = subst (λ (x : Point
 ran p b (d ∷ ds) pt end ls ids valid h sources opens (w, rest, fit, is, split, more) =
     let based = h.run.based in
     let next : Both b w.point = both_group run_group b pt d w valid fit is h in
-    let acts = group_acts (length b.machines) b pt d w (step_for b pt d h fit) is sources in
+    let acts = group_acts (length b.machines) b pt d w (step_for b pt d h fit) (within_run b pt h.run) is sources in
     let g = group_flows p b pt d w ids based.phased based.known is opens in
     let r = ran p b ds w.point end rest g.left valid next acts.sources g.opens more in
     record {

@@ -1,13 +1,15 @@
 -- A turn that handles a kernel's own message: what it does with the pieces that stand.
-use Rattle.dm_movelaws.proofs.Names.{◌≡◌, ℕ, ◌+◌, ◌/◌, ◌==◌, ◌&&◌, Bool, true, false, List, [], ◌∷◌, ◌++◌, length, refl, ap, ◌∙◌, sym, subst, arith, nat_tests, ⊤, if◌then◌else◌, not, Option, None, Some, bind, left_true, Pid, pid_eq, MsgId}
+use Rattle.dm_movelaws.proofs.Names.{◌≡◌, ℕ, ◌+◌, ◌==◌, ◌&&◌, Bool, true, false, List, [], ◌∷◌, ◌++◌, length, refl, ap, ◌∙◌, sym, subst, arith, nat_tests, ⊤, if◌then◌else◌, not, Option, None, Some, bind, left_true, Pid, pid_eq, MsgId}
 use Rattle.dm_movelaws.proofs.Names.{MessageKind, Boot, Line, Stage, View, Told, About, Of, Known, Unknown, Here, Frozen, Forward, view_after, handled_first, target_of, Point, moved, Part, Says, Spelled, spelled, to_kernel, sends_on}
-use Rattle.dm_movelaws.proofs.Names.{accepts, takes_chunk, takes_block, tells_asker, leaves, told_step, told_here, told_ended, told_server, process_told, kernel_hears, manager, is_between, sort_of, Spot, ids_at, times, PairsFit, Sane}
-use Rattle.dm_movelaws.proofs.Names.{sane_line, Tame, MoveNote, Outcome, PlainProcess, chunks_of, pieces_of, accepted_off, state_off, memory_off, lacks_off, proto_off, restarted_off, frozen_off, first_off, rejoins, is_put, touches}
-use Rattle.dm_movelaws.proofs.Names.{line_next, turned, handled, label_of, by_forwards, Addresses, updates, leaves_for, hears, switchboard, plain_by, forwards_on, is_stale, is_waited_from, brings_piece, stales, called_parts, tells_end}
+use Rattle.dm_movelaws.proofs.Names.{accepts, takes_chunk, takes_block, tells_asker, leaves, told_step, told_here, told_ended, process_told, kernel_hears, manager, is_between, sort_of, Spot, ids_at, times, PairsFit, Sane}
+use Rattle.dm_movelaws.proofs.Names.{sane_line, Tame, MoveNote, Outcome, chunks_of, pieces_of, accepted_off, memory_off, lacks_off, proto_off, restarted_off, frozen_off, first_off, rejoins, is_put, touches}
+use Rattle.dm_movelaws.proofs.Names.{line_next, turned, handled, label_of, by_forwards, Addresses, updates, leaves_for, hears, plain_by, forwards_on, is_stale, is_waited_from, brings_piece, stales, called_parts, tells_end}
 use Rattle.dm_movelaws.proofs.Names.{buried, preds_of, buries_kept, bury_is}
 use Rattle.dm_rule.specs.Rule as rule
 use Rattle.dm_rule.specs.View as view
 use Rattle.dm_onekernel.specs.Step as kernel
+use Rattle.dm_movelaws.proofs.Names.{Size, size_of, is_server}
+use Rattle.dm_movelaws.proofs.LastPieces.{last_chunk, state_goes}
 use Rattle.dm_movelaws.proofs.Stages.Spares.{is_piece}
 use Rattle.dm_movelaws.proofs.Ends.Parts.{Smooth, Plain, smooth_trans, smooth_still, smooth_others, told_by, unit_if}
 use Rattle.dm_movelaws.proofs.Ends.Open.{Turn, first_smooth, first_spots}
@@ -15,7 +17,7 @@ use Rattle.dm_movelaws.proofs.Ends.Sources.{sent_smooth, all_sent, sends_count, 
 use Rattle.dm_movelaws.proofs.Ends.Hears.{called_begins, turned_back}
 use Rattle.dm_movelaws.proofs.Stales.Weighs.{takes_on, takes_all}
 use Rattle.dm_movelaws.proofs.Stales.Pieces.{piece_for, no_piece_for, plain_piece, AllSlight, parts_smooth}
-use Rattle.dm_movelaws.proofs.Stales.Rows.{Flows, Even, smooth_flows, slight_flows, line_flows, answer_flows, stale_flows}
+use Rattle.dm_movelaws.proofs.Stales.Rows.{two_flows, Flows, Even, smooth_flows, slight_flows, line_flows, answer_flows, stale_flows}
 
 -- what comes of a turn, if anything does
 abbrev pub FlowsOf : Pid → Point → Option (List Part) → Type 0
@@ -41,9 +43,15 @@ piece_flows p pt i is t q j k b h kind about from to w e =
     let topic : (view_after v l).topic ≡ Of q = (let topic_of : (o : Option Told) → o ≡ Some t → (view.after_proto (handled v i) o).topic ≡ t.about = λ o is. grind (arith, nat_tests) in topic_of (v.told i) h.told) ∙ about in
     answer_flows p pt i is t q l j k b w h kind about refl refl refl (λ z. proto_off (handled v i) (v.told i) z ∙ sym (first_off v i is h.front z)) topic even e
 
+-- the last chunk of a server is its last piece, and all has come
+last_flows : (p : Pid) (pt : Point) (i : MsgId) (is : List MsgId) (t : Told) (q : Pid) (b : ℕ) (c : Bool) → Turn pt i is t → t.kind ≡ MessageKind.State → t.about ≡ Of q → is_server q ≡ c
+    → FlowsOf p pt (Some (if c then last_chunk q b else Says (Line.Migration Stage.StateTaken q) ∷ to_kernel MessageKind.PullBlock b ∷ []))
+last_flows p pt i is t q b true h kind about server = λ w e. two_flows p pt i is t q b w h kind about server e
+last_flows p pt i is t q b false h kind about free = λ w e.
+    answer_flows p pt i is t q (Line.Migration Stage.StateTaken q) MessageKind.State MessageKind.PullBlock b w h kind about refl refl refl (λ z. state_goes pt.view q z free) refl (record { sum = refl; stale = λ f. refl }) e
+
 chunk_flows : (p : Pid) (pt : Point) (i : MsgId) (is : List MsgId) (t : Told) (q : Pid) (last : Bool) → Turn pt i is t → t.kind ≡ MessageKind.State → t.about ≡ Of q → FlowsOf p pt (Some (takes_chunk i q last))
-chunk_flows p pt i is t q true h kind about = λ w e.
-    answer_flows p pt i is t q (Line.Migration Stage.StateTaken q) MessageKind.State MessageKind.PullBlock i.from.home w h kind about refl refl refl (state_off pt.view q) refl (record { sum = refl; stale = λ f. refl }) e
+chunk_flows p pt i is t q true h kind about = last_flows p pt i is t q i.from.home (is_server q) h kind about refl
 chunk_flows p pt i is t q false h kind about = piece_flows p pt i is t q MessageKind.State MessageKind.PullState i.from.home h kind about refl refl
 
 block_flows : (p : Pid) (pt : Point) (i : MsgId) (is : List MsgId) (t : Told) (q : Pid) (last : Bool) → Turn pt i is t → t.kind ≡ MessageKind.Memory → t.about ≡ Of q → FlowsOf p pt (Some (takes_block i q last))
@@ -102,7 +110,7 @@ called_flows p pt q from w sane fits e =
     smooth_flows p v w.point.view (called_parts q ids from) smooth (let c = sends_count (takes_on p) from ids qs in omega (arith, c)) (let c = sends_count (takes_all p) from ids qs in omega (arith, c)) (λ f. let c = sends_count (stales f p) from ids qs in omega (arith, c))
 
 -- by the kind of the message
-told_flows : (p : Pid) (o : Point) (m : ℕ) (i : MsgId) (is : List MsgId) (t : Told) (q : Pid) (room : Bool × ℕ × ℕ) (x : PlainProcess) (k : MessageKind) → Turn (turned o m) i is t → t.kind ≡ k → t.about ≡ Of q → FlowsOf p (turned o m) (told_step o m i q room x (sort_of k))
+told_flows : (p : Pid) (o : Point) (m : ℕ) (i : MsgId) (is : List MsgId) (t : Told) (q : Pid) (room : Bool × ℕ × ℕ) (x : Size) (k : MessageKind) → Turn (turned o m) i is t → t.kind ≡ k → t.about ≡ Of q → FlowsOf p (turned o m) (told_step o m i q room x (sort_of k))
 told_flows p o m i is t q room x MessageKind.Ask h e about = accepts_flows p (turned o m) i is t q room.0 room.1 room.2 i.from.home h e about
 told_flows p o m i is t q room x MessageKind.Refuse h e about = back_flows p (turned o m) i is t q (Line.Stays q) (o.kernel.notes q) Outcome.Stayed h (ap is_piece e) refl refl refl (λ z. refl) refl refl (λ f. refl)
 told_flows p o m i is t q room x MessageKind.CallOff h e about = back_flows p (turned o m) i is t q (Line.Stays q) (o.kernel.notes q) Outcome.Stayed h (ap is_piece e) refl refl refl (λ z. refl) refl refl (λ f. refl)
@@ -115,9 +123,9 @@ told_flows p o m i is t q room x MessageKind.Restart h e about = back_flows p (t
 told_flows p o m i is t q room x _ h e about = tt
 
 -- at a kernel
-of_bind : {X : Type 0} (p : Pid) (pt : Point) (x : Option X) (f : X → Option (List Part)) → ((y : X) → FlowsOf p pt (f y)) → FlowsOf p pt (bind x f)
+of_bind : {X : Type 0} (p : Pid) (pt : Point) (x : Option X) (f : X → Option (List Part)) → ((y : X) → x ≡ Some y → FlowsOf p pt (f y)) → FlowsOf p pt (bind x f)
 of_bind p pt None f k = tt
-of_bind p pt (Some y) f k = k y
+of_bind p pt (Some y) f k = k y refl
 
 one_flows : (p : Pid) (pt : Point) (ps : List Part) → Sane pt → PairsFit pt.view → AllSlight pt.view ps → FlowsOf p pt (Some ps)
 one_flows p pt ps sane fits slight w e = slight_flows p pt ps w sane fits slight e
@@ -126,12 +134,13 @@ kernel_flows : (p : Pid) (b : Boot) (o : Point) (m : ℕ) (i : MsgId) (is : List
 kernel_flows p b o m i is t (Of q) h about = of_over (tells_end (sort_of t.kind)) refl
   where
     of_stale : (c : Bool) → is_stale o m i t.kind q ≡ c
-        → FlowsOf p (turned o m) (if c then Some (Says (Line.Stale i) ∷ []) else bind (kernel.alive (o.kernel.processes q)) (λ x. told_step o m i q (rule.fits (rule.free_room b o m) (length x.memory / 256)) x (sort_of t.kind)))
+        → FlowsOf p (turned o m) (if c then Some (Says (Line.Stale i) ∷ []) else bind (size_of o.kernel q) (λ x. told_step o m i q (rule.fits (rule.free_room b o m) x.blocks) x (sort_of t.kind)))
     of_stale true stale = λ w e. stale_flows p (turned o m) i is t q w h about (left_true (brings_piece (sort_of t.kind)) (not (is_waited_from i.from.home (o.view.known m q))) stale) e
-    of_stale false fresh = of_bind p (turned o m) (kernel.alive (o.kernel.processes q)) (λ x. told_step o m i q (rule.fits (rule.free_room b o m) (length x.memory / 256)) x (sort_of t.kind)) (λ x. told_flows p o m i is t q (rule.fits (rule.free_room b o m) (length x.memory / 256)) x t.kind h refl about)
+    of_stale false fresh =
+        of_bind p (turned o m) (size_of o.kernel q) (λ x. told_step o m i q (rule.fits (rule.free_room b o m) x.blocks) x (sort_of t.kind)) (λ x sized. told_flows p o m i is t q (rule.fits (rule.free_room b o m) x.blocks) x t.kind h refl about)
 
     of_over : (c : Bool) → tells_end (sort_of t.kind) ≡ c
-        → FlowsOf p (turned o m) (if c then Some (buried o m i q) else if is_stale o m i t.kind q then Some (Says (Line.Stale i) ∷ []) else bind (kernel.alive (o.kernel.processes q)) (λ x. told_step o m i q (rule.fits (rule.free_room b o m) (length x.memory / 256)) x (sort_of t.kind)))
+        → FlowsOf p (turned o m) (if c then Some (buried o m i q) else if is_stale o m i t.kind q then Some (Says (Line.Stale i) ∷ []) else bind (size_of o.kernel q) (λ x. told_step o m i q (rule.fits (rule.free_room b o m) x.blocks) x (sort_of t.kind)))
     of_over true over =
         let tame : Tame (turned o m).view i = record { what = t; told = h.told; plain = ap is_between (bury_is t.kind over) } in
         one_flows p (turned o m) (buried o m i q) h.sane h.fits (tame, buries_kept (AllSlight (turned o m).view) tt (λ to xs k. (refl, k)) (preds_of o m q))
@@ -160,19 +169,9 @@ over_flows p pt i MessageKind.Migrate sane fits tame = one_flows p pt (Says (Lin
 over_flows p pt i MessageKind.Update sane fits tame = one_flows p pt (Says (Line.Updated i 0) ∷ []) sane fits (tame, tt)
 over_flows p pt i _ sane fits tame = tt
 
-server_flows : (p : Pid) (o pt : Point) (i : MsgId) (t : Told) (k : MessageKind) → Sane pt → PairsFit pt.view → Tame pt.view i → FlowsOf p pt (told_server o i t (sort_of k))
-server_flows p o pt i t MessageKind.Update sane fits tame = one_flows p pt (updates o i t) sane fits (tame, tt)
-server_flows p o pt i t _ sane fits tame = tt
-
-own_flows : (p : Pid) (o : Point) (m : ℕ) (i : MsgId) (is : List MsgId) (t : Told) (d g : Bool) → Turn (turned o m) i is t → Tame (turned o m).view i → is_piece t.kind ≡ false
-    → FlowsOf p (turned o m) (if d then told_server o i t (sort_of t.kind) else if g then told_server o i t (sort_of t.kind) else told_here o m i t (sort_of t.kind))
-own_flows p o m i is t true g h tame plain = server_flows p o (turned o m) i t t.kind h.sane h.fits tame
-own_flows p o m i is t false true h tame plain = server_flows p o (turned o m) i t t.kind h.sane h.fits tame
-own_flows p o m i is t false false h tame plain = here_flows p o m i is t t.kind h tame plain
-
 process_flows : (p : Pid) (o : Point) (m : ℕ) (i : MsgId) (is : List MsgId) (t : Told) (k : Known) → Turn (turned o m) i is t → Tame (turned o m).view i → is_piece t.kind ≡ false → FlowsOf p (turned o m) (process_told o m i t k)
 process_flows p o m i is t Unknown h tame plain = over_flows p (turned o m) i t.kind h.sane h.fits tame
-process_flows p o m i is t Here h tame plain = own_flows p o m i is t (pid_eq t.receiver switchboard) (pid_eq t.receiver manager) h tame plain
+process_flows p o m i is t Here h tame plain = here_flows p o m i is t t.kind h tame plain
 process_flows p o m i is t (Forward at moves) h tame plain = one_flows p (turned o m) (forwards_on o.addresses i t.kind manager at) h.sane h.fits (forwards_slight (turned o m).view o.addresses i t.kind manager at tame)
 process_flows p o m i is t _ h tame plain = one_flows p (turned o m) (Says (Line.Held i) ∷ []) h.sane h.fits (tame, tt)
 

@@ -2,10 +2,12 @@
 use Rattle.dm_movelaws.proofs.Names.{◌≡◌, ℕ, ◌+◌, ◌&&◌, Bool, true, false, List, [], ◌∷◌, length, refl, ap, ◌∙◌, sym, subst, arith, nat_tests, Option, None, Some, Pid, pid_of, pid_eq, MsgId, MessageKind, Line, View, Told, About, Of, own_id}
 use Rattle.dm_movelaws.proofs.Names.{after_put, view_after, handled_first, Point, label_of, moved, Part, Says, Owns, Spelled, spelled, to_kernel, Spot, ids_at, sort_of, PairsFit, PacketsKeep, Sane, first_off, is_put, touches, line_next}
 use Rattle.dm_movelaws.proofs.Names.{seen_none, said, option_map_or, brings_piece, is_about, stales}
+use Rattle.dm_movelaws.proofs.Names.{Stage, is_server, memory_off, times}
+use Rattle.dm_movelaws.proofs.LastPieces.{last_chunk, both_off}
 use Rattle.dm_movelaws.proofs.Leading.{next_of, part_leads, line_fits}
 use Rattle.dm_movelaws.proofs.Stages.Spares.{is_piece}
 use Rattle.dm_movelaws.proofs.Stages.Rows.{line_sane}
-use Rattle.dm_movelaws.proofs.Ends.Parts.{Smooth, Plain, Extends, smooth_same, put_smooth, packet_smooth, own_untold, one_if, unit_if, zero_if, part_count}
+use Rattle.dm_movelaws.proofs.Ends.Parts.{smooth_still, smooth_trans, told_by, Smooth, Plain, Extends, smooth_same, put_smooth, packet_smooth, own_untold, one_if, unit_if, zero_if, part_count}
 use Rattle.dm_movelaws.proofs.Ends.Open.{Opens, IsOpen, own_adds, smooth_opens, close_opens, add_opens, Turn, stands_front, first_smooth, first_closes}
 use Rattle.dm_movelaws.proofs.Stales.Weighs.{takes_on, takes_all}
 use Rattle.dm_movelaws.proofs.Stales.Pieces.{piece_for, AllSlight, parts_smooth, slight_counts}
@@ -126,6 +128,32 @@ answer_flows p pt i is t q l j k b w h kind about none quiet calm off topic even
           let z = even.sum in
           let s = zero_if (stales f p l) (even.stale f) in
           omega (arith, x, y, z, s);
+    }
+
+-- the last chunk of a server: it goes with step 5, and all has come
+pub two_flows : (p : Pid) (pt : Point) (i : MsgId) (is : List MsgId) (t : Told) (q : Pid) (b : ℕ) (w : Spelled) → Turn pt i is t → t.kind ≡ MessageKind.State → t.about ≡ Of q → is_server q ≡ true → spelled pt (last_chunk q b) ≡ Some w → Flows p pt.view w.point.view (last_chunk q b)
+two_flows p pt i is t q b w h kind about server e ids opens =
+    let v = pt.view in
+    let l = Line.Migration Stage.StateTaken q in
+    let k = Line.Migration Stage.MemoryTaken q in
+    let end = to_kernel MessageKind.AllTaken b ∷ [] in
+    let n = line_next pt l (Says k ∷ end) w refl e in
+    let next = moved pt l pt.kernel in
+    let last = moved next k next.kernel in
+    let o = line_next next k end n.rest refl n.more in
+    let alone = view_after v k in
+    let mid = view_after next.view k in
+    let mine : piece_for p t ≡ pid_eq p q = ap (λ (x : MessageKind). is_piece x && is_about p t.about) kind ∙ ap (is_about p) about in
+    -- as if step 5 alone had been said
+    let first = front_goes p pt k i is t (pid_eq p q) ids h mine refl (memory_off v q) opens in
+    let second : Smooth (piece_for p) alone mid = smooth_still (piece_for p) alone mid (λ j. told_by next.view k refl j ∙ told_by v l refl j ∙ sym (told_by v k refl j)) (λ j z. ap (times j) (both_off v q z server ∙ sym (memory_off v q z))) in
+    let sane = line_sane next k refl refl (line_sane pt l refl refl h.sane) in
+    let fits = line_fits next next.kernel k refl (line_fits pt pt.kernel l refl h.fits) in
+    let third : Smooth (piece_for p) mid o.rest.point.view = parts_smooth p mid end last o.rest (refl, tt) (smooth_same (piece_for p) mid) sane fits o.more in
+    record {
+      left = first.left;
+      opens = subst (λ (x : Point). Opens (piece_for p) x.view first.left) (o.point ∙ n.point) (smooth_opens (piece_for p) alone o.rest.point.view first.left (smooth_trans (piece_for p) alone mid o.rest.point.view second third) first.opens);
+      sum = λ f ext. (let x = first.sum in omega (arith, x));
     }
 
 -- a piece that comes too late goes

@@ -5,7 +5,7 @@ use Rattle.dm_movelaws.proofs.Names.{treads_start, Treads, is_moving, IsThere, e
 use Rattle.dm_movelaws.proofs.Names.{both_start, both_group, run_start, run_group, is_some, refl, cases_Bool, false≢true, None, Place, Label, Life, OneKernel, after_step, Stage, kernel_after, at_record, Told, About, NothingElse, Here}
 use Rattle.dm_movelaws.proofs.Names.{Frozen, Forward, view_after, handled, receiver_of, served_told, hushed, grown_none, Phased, queued_known, held_known, dropped_known, Sane, label_no_place, is_server, KnownStands, group_keeps, Loud}
 use Rattle.dm_movelaws.proofs.Names.{keeps_by, set_all, killed_or, named_real, is_made, IsNamed, ByHolder, ByOwn, ByRequest, ByUpdate, ByForward, queued_topic, held_topic, or_first, run_always, sets, seen, label_of, Of, Incoming, HasEnded}
-use Rattle.dm_movelaws.proofs.Names.{is_unknown, living_phase, suc, ◌||◌, is_alive, is_fixed, zero, server_fixed, is_over, is_gone, TrailsIn}
+use Rattle.dm_movelaws.proofs.Names.{is_unknown, living_phase, server_phase, suc, ◌||◌, is_alive, is_fixed, zero, aim, is_over, is_gone, TrailsIn}
 use Rattle.dm_rulelaws.proofs.Found.Core.{IsReal}
 use Rattle.dm_onekernel.specs.Step as kernel
 use Rattle.dm_rule.specs.View as view
@@ -18,6 +18,7 @@ use Rattle.dm_movelaws.proofs.At.RestAlways.{is_here_is as here_is, is_unknown_i
 use Rattle.dm_movelaws.proofs.Trail.Loose.{AllGood, good_fit, good_places, along_after}
 use Rattle.dm_movelaws.proofs.Trail.Rows.{group_good}
 use Rattle.dm_movelaws.proofs.Promise.Spots.{TrailKnown}
+use Rattle.dm_rulelaws.proofs.Fits.Rises.{or_on}
 
 places_start : (b : Boot) → Places (first_view b) first_trails
 places_start b p = grind (arith, nat_tests, eq_is, start_known)
@@ -43,7 +44,7 @@ ranges_in b x h = subst (λ (n : ℕ). TrailsIn n x.point.kernel x.trails) (sym 
 
 -- what lives is known at home
 pub at_home : (s : OneKernel) (v : View) (p : Pid) → KnownStands s v → is_alive s p ≡ true → v.known p.home p ≢ Unknown
-at_home s v p h lives = grind (arith, nat_tests, server_fixed)
+at_home s v p h lives = h.home p lives
 
 pub carries : Carries Holds
 carries = record {
@@ -118,7 +119,7 @@ last_of (x ∷ xs) (suc n) long = last_of xs n (omega (arith, long))
 -- what was made, and is on no machine, has ended
 ended_if : (b : Boot) (pt : Point) (p : Pid) (phase : Phase) → Both b pt → is_made pt.kernel p ≡ true → IsIn pt.view p phase → is_gone phase ≡ true → HasEnded pt.kernel p
 ended_if b pt p phase h made is gone = elim (cases_Bool (is_server p)) [
-  | inl server ↦ absurd (false≢true (ap is_away (sym (h.run.based.known.server 0 p server)) ∙ gone_away pt.view p phase is gone 0))
+  | inl server ↦ absurd (false≢true (sym (server_phase pt p phase h.run.based.phased server is) ∙ gone))
   | inr process ↦ by_life (pt.kernel.processes p) refl (sym (ap (λ (c : Bool). c || is_some (pt.kernel.processes p)) process) ∙ made)
 ]
   where
@@ -166,10 +167,19 @@ passes (Incoming from) = true
 passes (Forward at_ moves) = true
 passes _ = false
 
-abbrev WasMade : OneKernel → Pid → Type 0
-WasMade s p = is_some (s.processes p) ≡ true
+-- a server is, too; as a word that searches don't open
+WasMade : OneKernel → Pid → Type 0
+WasMade s p = is_made s p ≡ true
 
--- only processes that were made leave machines, and only of these a place is told
+was_made : (s : OneKernel) (p : Pid) → is_made s p ≡ true → WasMade s p
+unfolding WasMade
+was_made s p e = e
+
+made_was : (s : OneKernel) (p : Pid) → WasMade s p → is_made s p ≡ true
+unfolding WasMade
+made_was s p h = h
+
+-- only servers and processes that were made leave machines, and only of these a place is told
 record Passing (s : OneKernel) (v : View) : Type 0 where
   known : (m : ℕ) (p : Pid) → passes (v.known m p) ≡ true → WasMade s p
   told : (i : MsgId) (u : Told) (p : Pid) (m c : ℕ) → v.told i ≡ Some u → u.about ≡ view.Place p m c → WasMade s p
@@ -182,8 +192,8 @@ Goes s t = (p : Pid) → WasMade s p → WasMade t p
 pub none_is : (o : Option Life) → is_some o ≡ false → o ≡ None
 none_is o e = grind (arith, nat_tests)
 
-goes_label : (pt : Point) (t : OneKernel) (l : Label) → Sane pt → kernel.step pt.kernel l ≡ Some t → Goes pt.kernel t
-goes_label pt t l h e p some = elim (cases_Bool (is_some (t.processes p))) [
+some_goes : (pt : Point) (t : OneKernel) (l : Label) (p : Pid) → Sane pt → kernel.step pt.kernel l ≡ Some t → is_some (pt.kernel.processes p) ≡ true → is_some (t.processes p) ≡ true
+some_goes pt t l p h e some = elim (cases_Bool (is_some (t.processes p))) [
   | inl there ↦ there
   | inr none ↦
       let a = after_step h.r h.e pt.kernel t l e h.sound in
@@ -191,8 +201,19 @@ goes_label pt t l h e p some = elim (cases_Bool (is_some (t.processes p))) [
       absurd (false≢true (sym (ap is_some before) ∙ some))
 ]
 
+goes_label : (pt : Point) (t : OneKernel) (l : Label) → Sane pt → kernel.step pt.kernel l ≡ Some t → Goes pt.kernel t
+goes_label pt t l h e p made = was_made t p (or_on (is_server p) (is_some (pt.kernel.processes p)) (is_some (t.processes p)) (some_goes pt t l p h e) (made_was pt.kernel p made))
+
+-- whoever lives was made
+some_alive : (o : Option Life) → is_some (kernel.alive o) ≡ true → is_some o ≡ true
+some_alive None e = e
+some_alive (Some x) e = refl
+
+alive_made : (s : OneKernel) (p : Pid) → is_alive s p ≡ true → WasMade s p
+alive_made s p lives = was_made s p (or_on (is_server p) (is_some (kernel.alive (s.processes p))) (is_some (s.processes p)) (some_alive (s.processes p)) lives)
+
 goes_by : (pt : Point) (t : OneKernel) (o : Option Label) → Sane pt → kernel_after pt.kernel o ≡ Some t → Goes pt.kernel t
-goes_by pt t None h e p some = sym (ap (λ (k : OneKernel). is_some (k.processes p)) (let f : pt.kernel ≡ t = cc in f)) ∙ some
+goes_by pt t None h e p made = subst (λ (k : OneKernel). WasMade k p) (let f : pt.kernel ≡ t = cc in f) made
 goes_by pt t (Some l) h e p some = goes_label pt t l h e p some
 
 -- what a line is about
@@ -270,8 +291,12 @@ passing_loud = record {
       line_passing pt t l (goes_label pt t (Label.Created id p) sane is) (set_known pt.kernel pt.view (view_after pt.view l) p Here refl (λ f. absurd (false≢true f)) h) refl h;
   queued = grind (arith, nat_tests, line_passing, point_known, queued_known, hushed);
   held = grind (arith, nat_tests, line_passing, point_known, held_known, hushed);
-  frozen = grind (arith, nat_tests, line_passing, set_known);
-  accepted = grind (arith, nat_tests, line_passing, set_known);
+  frozen = λ pt p lives here h.
+      let l = Line.Migration Stage.Frozen p in
+      line_passing pt pt.kernel l (λ q e. e) (set_known pt.kernel pt.view (view_after pt.view l) p (Frozen (aim pt.view pt.view.topic)) (sets pt.view p pt.view.topic).known (λ f. alive_made pt.kernel p lives) h) (hushed pt.view l refl).told h;
+  accepted = λ pt p lives away h.
+      let l = Line.Migration Stage.Accepted p in
+      line_passing pt pt.kernel l (λ q e. e) (set_known pt.kernel pt.view (view_after pt.view l) p (Incoming (view.front_of (pt.view.inbox pt.view.acting))) refl (λ f. alive_made pt.kernel p lives) h) (hushed pt.view l refl).told h;
   left = grind (arith, nat_tests, line_passing, set_known);
   restarted = grind (arith, nat_tests, line_passing, set_known);
   stays_ = grind (arith, nat_tests, line_passing, set_known);
@@ -301,10 +326,13 @@ passed_always b es pt valid way = record {
 }
 
 known_made : (s : OneKernel) (v : View) (q : Pid) → KnownStands s v → v.known q.home q ≢ Unknown → is_made s q ≡ true
-known_made s v q h some = grind (arith, nat_tests)
+known_made s v q h some = elim (cases_Bool (is_server q)) [
+  | inl server ↦ ap (λ (c : Bool). c || is_some (s.processes q)) server
+  | inr process ↦ or_first (is_server q) (is_some (s.processes q)) (let agree = h.agree q.home q process in let e_ : is_some (s.processes q) ≡ true = grind (arith, nat_tests) in e_)
+]
 
 fixed_made : (s : OneKernel) (q : Pid) → (q.num == 0) ≡ false → is_fixed q ≡ true → is_made s q ≡ true
-fixed_made s q other fixed = grind (arith, nat_tests)
+fixed_made s q other fixed = absurd (false≢true (sym other ∙ fixed))
 
 real_made : (s : OneKernel) (v : View) (n : ℕ) (q : Pid) → KnownStands s v → (q.num == 0) ≡ false → IsReal n s.processes v q → is_made s q ≡ true
 real_made s v n q h other real = elim real [
@@ -319,5 +347,5 @@ pub made_by : (b : Boot) (pt : Point) (q : Pid) (place : Place) → Passed b pt 
 made_by b pt q place h other (ByHolder g is at_) = real_made pt.kernel pt.view pt.kernel.machines q h.both.run.based.known other (named_real pt pt.kernel.machines g q h.both.run.kept is)
 made_by b pt q place h other (ByOwn i u own told to at_) = grind (arith, nat_tests, real_made)
 made_by b pt q place h other (ByRequest i u own told asks to at_) = subst (λ (p : Pid). is_made pt.kernel p ≡ true) to refl
-made_by b pt q place h other (ByUpdate i u told about) = or_first (is_server q) (is_some (pt.kernel.processes q)) (h.passing.told i u q place.at place.moves told about)
-made_by b pt q place h other (ByForward m e) = or_first (is_server q) (is_some (pt.kernel.processes q)) (h.passing.known m q (ap passes e))
+made_by b pt q place h other (ByUpdate i u told about) = made_was pt.kernel q (h.passing.told i u q place.at place.moves told about)
+made_by b pt q place h other (ByForward m e) = made_was pt.kernel q (h.passing.known m q (ap passes e))

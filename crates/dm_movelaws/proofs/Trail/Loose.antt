@@ -12,6 +12,7 @@ use Rattle.dm_movelaws.proofs.Leading.{Behind, whatever_put, part_leads}
 use Rattle.dm_onekernel.specs.Step as kernel
 use Rattle.dm_rule.specs.Rule as rule
 use Rattle.dm_rule.specs.Burying as bury
+use Rattle.dm_rulelaws.proofs.Found.Labels.{outside}
 
 -- each of these lines fits where the ones before lead, and behind the last each process is placed
 abbrev pub AllGood : Point → Trails → List Line → Type 0
@@ -176,10 +177,6 @@ net_loose [] h = tt
 net_loose (Says l ∷ ps) h = (net_line l h.0, net_loose ps h.1)
 net_loose (Transmits a b l ∷ ps) h = (record { fits = λ pt t sane on. tt; leaves = λ pt next t. part_rides (Transmits a b l) pt next t (λ m is. cc) }, net_loose ps h.1)
 net_loose _ h = absurd h.0
-
--- labels
-outside : (pt : Point) (s : OneKernel) (l : Label) (h : Sane pt) → kernel.step pt.kernel l ≡ Some s → Outside s
-outside pt s l h is j x there = not_kernels (λ i. h.r i + reception i l) (λ i. h.e i + entry i pt.kernel s) s j x there (after_step h.r h.e pt.kernel s l is h.sound).sound
 
 pub label_fits : (pt : Point) (t : Trails) (l : Label) → Sane pt → SaidOn (IsOn t) pt.kernel pt.view pt.addresses l → KnownFits pt t l → LabelFits pt t l
 label_fits pt t l sane said known = record { named = λ i m there. sane.sound.entered.named i m there; said = said; outside = λ s is. outside pt s l sane is; known = known }

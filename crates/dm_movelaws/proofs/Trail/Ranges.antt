@@ -2,13 +2,13 @@
 use Rattle.dm_movelaws.proofs.Names.{◌≡◌, ◌≢◌, ℕ, ◌<◌, ◌||◌, Bool, true, false, List, [], ◌∷◌, ◌++◌, length, refl, ap, ◌∙◌, sym, subst, inl, inr, arith, cases_Bool, false≢true, nat_tests, is_some, if◌then◌else◌, slice_get, Option, None}
 use Rattle.dm_movelaws.proofs.Names.{Some, Pid, pid_eq, pid_eq-is, pid_eq-same, MessageKind, Boot, Step, IsStep, Label, Life, Line, OneKernel, bind-is, Point, moved, after_line, Spelled, group_of, by_group, label_of, kernel_after, Trails}
 use Rattle.dm_movelaws.proofs.Names.{Trodden, first_trodden, along, trails_after, Treads, line_treads, LineFits, HeadIn, Within, line_within, is_made, is_server, life_sort, SetLife, step_alike, step_ends, step_serves, step_creates}
-use Rattle.dm_movelaws.proofs.Names.{source_holds, destination_expects, destination, is_kill, plain_kind, touches, IsNetLine, Known, Here, Incoming, Frozen, Unknown, Both, server_fixed, first_point, map, zero, suc, BootProcess, option_map}
+use Rattle.dm_movelaws.proofs.Names.{source_holds, destination_expects, destination, is_kill, plain_kind, touches, IsNetLine, Known, Incoming, Frozen, Unknown, Both, first_point, map, zero, suc, BootProcess, option_map}
 use Rattle.dm_movelaws.proofs.Names.{BootImage, first_life, life_at, started, plain_link, TrailsIn, some_alike}
 use Rattle.dm_onekernel.specs.Step as kernel
 use Rattle.dm_rule.proofs.Trails.Along.{AllFit}
 use Rattle.dm_movelaws.proofs.At.RestOnly.{is_dead}
 use Rattle.dm_movelaws.proofs.Leading.{AllLines, parts_say, outcome_says}
-use Rattle.dm_movelaws.proofs.Real.Always.{head_less}
+use Rattle.dm_rulelaws.proofs.Fits.Rises.{or_on}
 
 -- what machines know is known by machines that there are, and so are those of trails
 pub record Ranged (n : ℕ) (pt : Point) (t : Trails) : Type 0 where
@@ -41,13 +41,9 @@ label_made s t (Label.Served id) q none is some =
 label_made s t (Label.Created id p) q none is some = absurd (false≢true (sym none))
 label_made s t l q none is some = alike_some (t.processes q) (s.processes q) (step_alike s t l refl is q) some
 
-made_if : (c a b : Bool) → (a ≡ true → b ≡ true) → (c || a) ≡ true → (c || b) ≡ true
-made_if true a b h e = refl
-made_if false a b h e = h e
-
 -- the trails stay, and who is made was made
 ranges_same : (n : ℕ) (s u : OneKernel) (t : Trails) → ((q : Pid) → is_some (u.processes q) ≡ true → is_some (s.processes q) ≡ true) → TrailsIn n s t → TrailsIn n u t
-ranges_same n s u t made h = record { within = λ p is. h.within p (made_if (is_server p) (is_some (u.processes p)) (is_some (s.processes p)) (made p) is) }
+ranges_same n s u t made h = record { within = λ p is. h.within p (or_on (is_server p) (is_some (u.processes p)) (is_some (s.processes p)) (made p) is) }
 
 -- a process is made at home, on a machine that there is
 first_only : (xs : List ℕ) (home c m n : ℕ) → slice_get xs 0 ≡ Some home → length xs ≡ 1 → home < n → slice_get xs c ≡ Some m → m < n
@@ -62,7 +58,7 @@ created_ranges : (n : ℕ) (s u : OneKernel) (t : Trails) (p : Pid) → SetLife 
 created_ranges n s u t p set first long less h = record {
   within = λ q is c m e. elim (cases_Bool (pid_eq p q)) [
     | inl same ↦ first_only (t p) p.home c m n first long less (ap (λ (r : Pid). slice_get (t r) c) (pid_eq-is p q same) ∙ e)
-    | inr off ↦ h.within q (made_if (is_server q) (is_some (u.processes q)) (is_some (s.processes q)) (alike_some (u.processes q) (s.processes q) (set.off q off)) is) c m e
+    | inr off ↦ h.within q (or_on (is_server q) (is_some (u.processes q)) (is_some (s.processes q)) (alike_some (u.processes q) (s.processes q) (set.off q off)) is) c m e
   ];
 }
 
@@ -126,7 +122,7 @@ lines_ranged n (l ∷ ls) x y is fits heads on h =
 -- a group begins with a head, and has no other
 group_heads : (b : Boot) (n : ℕ) (pt : Point) (d : Step) (w : Spelled) → IsStep n d → group_of b pt d ≡ Some w → AllLines (HeadIn n) w.lines
 group_heads b n pt d w fit = by_group (λ v. AllLines (HeadIn n) v.lines) b pt d w (λ ps rest is said. (
-  head_less n d fit,
+  fit,
   parts_say (HeadIn n) (λ x y i k q. tt) (λ x y k l. tt) ps (moved pt (Line.Head d) pt.kernel) rest (outcome_says (HeadIn n) quiet_in net_in b pt d ps is) said,
 ))
   where
@@ -160,10 +156,7 @@ pub start_ranged : (b : Boot) → Both b (first_point b) → Ranged (first_point
 start_ranged b both =
     let pt = first_point b in
     let run = both.run in
-    let known : (q : Pid) → is_made pt.kernel q ≡ true → pt.view.known q.home q ≢ Unknown = λ q made. elim (cases_Bool (is_server q)) [
-      | inl server ↦ λ e. (let f : pt.view.known q.home q ≡ Here = ap (λ (m : ℕ). pt.view.known m q) (server_fixed q server).1 ∙ run.based.known.server 0 q server in let g : Here ≡ Unknown = sym f ∙ e in cc)
-      | inr process ↦ run.based.known.home q process (made_alive (is_server q) (pt.kernel.processes q) (first_lives b b.processes q) made)
-    ] in
+    let known : (q : Pid) → is_made pt.kernel q ≡ true → pt.view.known q.home q ≢ Unknown = λ q made. run.based.known.home q (made_alive (is_server q) (pt.kernel.processes q) (first_lives b b.processes q) made) in
     record {
       within = record { known = λ m q some. run.found.known_within m q some; acting = run.kept.acting };
       ranges = record { within = λ p made c m e. first_only (p.home ∷ []) p.home c m pt.kernel.machines refl refl (run.found.known_within p.home p (known p made)) e };

@@ -1,19 +1,27 @@
 -- What a turn says of a kernel's own message fits the trails.
 use Rattle.dm_movelaws.proofs.Names.{◌≡◌, ℕ, ◌+◌, Bool, true, false, List, [], ◌∷◌, refl, ap, ◌∙◌, sym, subst, arith, ◌||◌, if◌then◌else◌, slice_get, Option, None, Some, Pid, pid_of, MsgId, MessageKind, Label, Line, plain_kind, proto_known}
-use Rattle.dm_movelaws.proofs.Names.{PlainMessage, Boot, first_number, View, Told, Here, Forward, handled, ends_by, served_told, view_after, Receiver, Point, moved, Part, Says, Routes, Nowhere, forwards_on, Trails, ReceivedAt, ended_on}
-use Rattle.dm_movelaws.proofs.Names.{is_fixed, Unborn, said_by, Stops, by_round, by_handles, StoodOnTrail, nat_tests, ◌≤◌, inl, inr, PutFits, manager, Step, Of, is_kernels, own_id, after_head, front_of, Child, Sender, to_of, sender_of}
-use Rattle.dm_movelaws.proofs.Names.{Spelled, IsIn, is_between, group_of, Inbox, Queue, Held, times, standing, both_lists, both_times, front_kernels, Phased, outcome_sayable, Named, Links, child_is, parts, migrate_to, migrate_from, Treads}
+use Rattle.dm_movelaws.proofs.Names.{PlainMessage, Boot, first_number, View, Told, Here, Forward, handled, ends_by, served_told, view_after, Receiver, Point, moved, Part, Says, Routes, Nowhere, forwards_on, Trails, IsOn, ReceivedAt, ended_on}
+use Rattle.dm_movelaws.proofs.Names.{is_fixed, Unborn, said_by, Stops, by_round, by_handles, StoodOnTrail, nat_tests, ◌≤◌, inl, inr, PutFits, manager, Step, Of, is_kernels, own_id, after_head, front_of, Sender, to_of, sender_of}
+use Rattle.dm_movelaws.proofs.Names.{Spelled, IsIn, is_between, group_of, Inbox, Queue, Held, times, standing, both_lists, both_times, front_kernels, Phased, outcome_sayable, Named, Links, parts, migrate_to, migrate_from, Treads}
 use Rattle.dm_movelaws.proofs.Names.{line_treads, KnownStands, Begins, begins, begun, begun_sane, turned, unborn, FoundBy, KnowsAt, moves_back, own_outside, own_fresh, told_there, about_same, stands_first, queued_for, told_for, either}
 use Rattle.dm_movelaws.proofs.Names.{fixed_home, by_migrates, migrates, by_outcome, by_group, answers_move, leaves_for, Outcome, asked_noted, ◌++◌, false≢true, Stage, pid_eq-same, Frozen, Incoming, to_kernel, Moves, receiver_in, sender_in}
 use Rattle.dm_movelaws.proofs.Names.{Sane, source_holds, destination_expects, by_hears, place_told, behind_count, left_parts, MoveNote, OneKernel, Known, label_of, kernel_after, at_record, at_record_at, Said, aim, sets, sort_of, is_restart}
 use Rattle.dm_movelaws.proofs.Names.{kind_leaves, eq_is, eq_self, tells_onward, called_parts, by_calls_off, coming_is, holds_on, two_apart, calm_phases, head_calm, knows, InPhases, sends_on, again_rides, ◌==◌, length, is_server, is_away}
 use Rattle.dm_movelaws.proofs.Names.{is_alive, resting, Resting, bury_over, ended_away, map, About, living, PlainWhat, next_is_new}
+use Rattle.dm_movelaws.proofs.LastPieces.{last_chunk}
 use Rattle.dm_movelaws.proofs.At.RestOnly.{ended_alive}
+use Rattle.dm_rule.proofs.KnownPlaces.{known_by}
+use Rattle.dm_rule.specs.Addresses.{known_place}
+use Rattle.dm_rule.specs.View.{has_seat}
+use Rattle.dm_rule.specs.Trails.{AddressesOn}
+use Rattle.dm_link.specs.Names.{Place}
+use Rattle.dm_rule.proofs.Homes.Serves.{ServedAt}
 use Rattle.dm_rule.specs.Burying as bury
 use Rattle.dm_onekernel.specs.Pieces as pieces
 use Rattle.dm_onekernel.specs.Step as kernel
 use Rattle.dm_rule.specs.Rule as rule
 use Rattle.dm_rule.proofs.Hearing as hearing
+use Rattle.dm_movelaws.proofs.At.RestAlways.{is_here_is}
 use Rattle.dm_movelaws.proofs.Trail.Placed.{is_held, Places, placed_held, places_set, places_held, places_forgets, Elsewhere, placed_comes, placed_restarts, moves_held, moves_comes}
 use Rattle.dm_movelaws.proofs.Trail.Loose.{Walks, AllLoose, loose_walks, places_same, label_fits, label_walks, routes_loose, queued_loose, held_loose, dropped_loose, ends_loose, buries_loose, apart_off, AllGood, parts_good, owns_leave, at_pid}
 use Rattle.dm_movelaws.proofs.Trail.Loose.{net_loose, first_walks, to_between, Loose, quiet, forwards_walks}
@@ -172,6 +180,7 @@ hears_walks pt b o t m id u ps same notes known kernels forwards was over h =
             state = proto MessageKind.State (to_between MessageKind.State home refl);
             next_chunk = proto MessageKind.PullState (to_between MessageKind.PullState home refl);
             last_chunk = loose_walks (Says (Line.Migration Stage.StateTaken p) ∷ to_kernel MessageKind.PullBlock home ∷ []) pt t (state_loose, to_between MessageKind.PullBlock home refl) h;
+            server_chunk = λ server. loose_walks (last_chunk p home) pt t (state_loose, (memory_loose, to_between MessageKind.AllTaken home refl)) h;
             memory = proto MessageKind.Memory (to_between MessageKind.Memory home refl);
             next_block = proto MessageKind.PullBlock (to_between MessageKind.PullBlock home refl);
             last_block = loose_walks (Says (Line.Migration Stage.MemoryTaken p) ∷ to_kernel MessageKind.AllTaken home ∷ []) pt t (memory_loose, to_between MessageKind.AllTaken home refl) h;
@@ -235,6 +244,13 @@ pub record Front (pt : Point) (t : Trails) (id : MsgId) (k : PlainMessage) : Typ
 received : (pt : Point) (t : Trails) (id : MsgId) (k : PlainMessage) → Front pt t id k → is_fixed k.to ≡ true → ReceivedAt pt.kernel pt.view.acting id
 received pt t id k f fixed m there = let g : Some k ≡ Some m = sym f.there ∙ there in let e : k ≡ m = cc in ap (λ (x : PlainMessage). x.to.home) (sym e) ∙ f.fixed fixed
 
+-- whoever the message is for is on its trail, where it is here
+served_at : (pt : Point) (t : Trails) (id : MsgId) (k : PlainMessage) → Front pt t id k → pt.view.known pt.view.acting k.to ≡ Here → ServedAt (IsOn t) pt.kernel pt.view id
+served_at pt t id k f here m there =
+    let g : Some k ≡ Some m = sym f.there ∙ there in
+    let e : k ≡ m = cc in
+    subst (λ (x : PlainMessage). slice_get (t x.to) (pt.view.moves x.to) ≡ Some pt.view.acting) e (at_end pt t k.to here f.places)
+
 gone_walks : (pt : Point) (t : Trails) (id : MsgId) (k : PlainMessage) → Front pt t id k → Walks pt t (rule.says (Label.Gone id) ∷ Routes (pieces.answer_id id) ∷ [])
 gone_walks pt t id k f =
     label_walks pt t (Label.Gone id) (Routes (pieces.answer_id id) ∷ []) (λ on. (ended_on pt.kernel pt.view pt.addresses t id f.at on.links, tt, places_same pt.view (handled pt.view id) t (λ m q. refl) (λ q. refl) f.places)) (routes_loose (pieces.answer_id id), tt)
@@ -259,7 +275,7 @@ served_walks pt t id k ps f here server loose =
       (λ m there. let g : Some k ≡ Some m = sym f.there ∙ there in let e : k ≡ m = cc in (ap (λ (x : PlainMessage). x.to) (sym e) ∙ sym (f.receiver u told), ap (λ (x : PlainMessage). x.what) (sym e) ∙ kill_is k.what (sym (f.kind u told) ∙ kill))),
     ) in
     label_walks pt t (Label.Served id) ps (λ on. (
-      (λ m there. let g : Some k ≡ Some m = sym f.there ∙ there in let e : k ≡ m = cc in subst (λ (x : PlainMessage). slice_get (t x.to) (pt.view.moves x.to) ≡ Some pt.view.acting) e (at_end pt t k.to here f.places)),
+      served_at pt t id k f here,
       known,
       served_places (handled pt.view id) t (pt.view.told id) (λ u told kill. let r = subst (Resting pt.view) (sym (f.receiver u told)) (f.rests here) in record { here = r.here; away = r.away }) (places_same pt.view (handled pt.view id) t (λ m q. refl) (λ q. refl) f.places),
     )) loose
@@ -300,9 +316,9 @@ asks_walks pt t id k ps f here rest = λ sane on. (
 pub handles_walks : (pt : Point) (b : Boot) (o : Point) (t : Trails) (m : ℕ) (id : MsgId) (k : PlainMessage) (ps : List Part) → Front pt t id k → Unborn pt.view (pid_of m (first_number + o.kernel.made m)) → pt.view.moves (pid_of m (first_number + o.kernel.made m)) ≡ 0 → pt.view.known pt.view.acting k.to ≡ o.view.known m k.to
     → ((to c : ℕ) → o.view.known m k.to ≡ Forward to c → Walks pt t (forwards_on o.addresses id (plain_kind k.what) k.sender to)) → rule.handles b o m id k ≡ Some ps → Walks pt t ps
 handles_walks pt b o t m id k ps f born new known forwards = by_handles (Walks pt t) b o m id k ps (record {
-  created = λ kernel_. creates_walks pt o t m id k (record { slots = 0; blocks = 0 }) true f (ap (λ (c : Bool). c || is_server k.to) kernel_) born new;
-  no_space = λ kernel_ slots blocks. creates_walks pt o t m id k (record { slots = slots; blocks = blocks }) false f (ap (λ (c : Bool). c || is_server k.to) kernel_) born new;
-  took = λ to sent. label_walks pt t (Label.Took id) (rule.routes sent) (λ on. (received pt t id k f (ap (λ (c : Bool). c || is_server k.to) to.kernel ∙ to.process), tt, places_same pt.view (handled pt.view id) t (λ m q. refl) (λ q. refl) f.places)) (grind (arith, nat_tests, routes_loose));
+  created = λ kernel_. creates_walks pt o t m id k (record { slots = 0; blocks = 0 }) true f kernel_ born new;
+  no_space = λ kernel_ slots blocks. creates_walks pt o t m id k (record { slots = slots; blocks = blocks }) false f kernel_ born new;
+  took = λ to sent. label_walks pt t (Label.Took id) (rule.routes sent) (λ on. (served_at pt t id k f (known ∙ to.known), tt, places_same pt.view (handled pt.view id) t (λ m q. refl) (λ q. refl) f.places)) (grind (arith, nat_tests, routes_loose));
   queued = λ to user. loose_walks (Says (Line.Queued id) ∷ []) pt t (queued_loose id, tt) f.places;
   served = λ to mild. served_walks pt t id k [] f (known ∙ to.known) to.process tt;
   answers = λ to mild i. served_walks pt t id k (Routes i ∷ []) f (known ∙ to.known) to.process (routes_loose i, tt);
@@ -341,9 +357,9 @@ heard o m i is u p start h front told about between whole =
     } in
     subst (λ (q : Pid). Heard pt q u.kind) pq (subst (λ (k : MessageKind). Heard pt w.p k) kk first)
 
--- what was never made has never moved
+-- what was never made, and is no server, has never moved
 abbrev Unmoved : Point → Type 0
-Unmoved pt = (p : Pid) → pt.kernel.processes p ≡ None → pt.view.moves p ≡ 0
+Unmoved pt = (p : Pid) → is_server p ≡ false → pt.kernel.processes p ≡ None → pt.view.moves p ≡ 0
 
 -- a message of the bag at the front of the inbox
 front_walks : (b : Boot) (o : Point) (t : Trails) (m : ℕ) (i : MsgId) (is : List MsgId) (k : PlainMessage) (ps : List Part) → Begins o m → FoundBy o → Unmoved o → Places o.view t → o.view.inbox m ≡ i ∷ is → o.kernel.bag i ≡ Some k → rule.handles b o m i k ≡ Some ps → Walks (turned o m) t ps
@@ -363,7 +379,7 @@ front_walks b o t m i is k ps start h unmoved at front there =
       rests = λ here. resting pt.view k.to start.phases here;
       places = placed;
     } in
-    handles_walks pt b o t m i k ps f (unborn o m start.rooted) (unmoved (pid_of m (first_number + o.kernel.made m)) (next_is_new o.kernel m start.sane.sound.made)) refl
+    handles_walks pt b o t m i k ps f (unborn o m start.rooted) (unmoved (pid_of m (first_number + o.kernel.made m)) (unborn o m start.rooted).server (next_is_new o.kernel m start.sane.sound.made)) refl
     (λ to c e. subst (λ (y : MessageKind). Walks pt t (forwards_on o.addresses i y k.sender to)) kind_same
     (forwards_walks pt t i u k.sender to c told (ap (o.view.known m) to_same ∙ e) placed (λ yes_ on. on.links (Sender i) k.sender (ap sender_of there))))
 
@@ -379,15 +395,26 @@ own_walks b o t m i is ps base start h at front there e =
     (λ to c e. forwards_walks pt t i u manager to c told e placed (λ yes_ on. on.own.sender i u own told (moves_back u.kind (h.real i u told own).1 yes_))) told
     (λ p about kind. (ended_alive o p base (bury_over o i u p base told kind about), λ n. ended_away o p base (bury_over o i u p base told kind about) n)) placed (ap (rule.hears b o m i) (sym told) ∙ e)
 
--- a directive to move a process
-migrates_walks : (pt : Point) (t : Trails) (p : Pid) → pt.view.acting ≡ 0 → Places pt.view t → Walks pt t (migrates pt p)
-migrates_walks pt t p first h =
-    let pinned_loose : Loose (Says (Line.Pinned p)) = quiet (Line.Pinned p) (λ pt t. tt) (λ v t. refl) (λ v n q. refl) (λ v q. refl) in
+-- the place that the manager knows is on the trail
+known_on : (pt : Point) (t : Trails) (p : Pid) (a : Place) → pt.view.known pt.view.acting manager ≡ Here → Places pt.view t → AddressesOn pt.kernel pt.addresses t
+    → known_place pt.kernel pt.view pt.view.acting pt.addresses p ≡ Some a → IsOn t p a
+known_on pt t p a here h on place_known = elim (known_by pt.kernel pt.view pt.view.acting pt.addresses p a place_known) [
+  | inl (is, own) ↦ subst (IsOn t p) (sym own) (subst (λ (q : Pid). IsOn t q (record { at = pt.view.acting; moves = pt.view.moves q })) (sym is) (at_end pt t manager here h))
+  | inr (holder, place) ↦ subst (IsOn t p) (sym place.1) (on holder p place.0)
+]
+
+-- a directive to move a process or a server
+migrates_walks : (pt : Point) (t : Trails) (p : Pid) → (has_seat pt.view ≡ true → pt.view.seat ≡ pt.view.acting) → Places pt.view t → Walks pt t (migrates pt p)
+migrates_walks pt t p acts h =
+    let away_loose : Loose (Says Line.Away) = quiet Line.Away (λ pt t. tt) (λ v t. refl) (λ v n q. refl) (λ v q. refl) in
     let no_child_loose : Loose (Says (Line.NoChild p)) = quiet (Line.NoChild p) (λ pt t. tt) (λ v t. refl) (λ v n q. refl) (λ v q. refl) in
-    by_migrates (Walks pt t) pt p (loose_walks (Says (Line.Pinned p) ∷ []) pt t (pinned_loose, tt) h) (loose_walks (Says (Line.NoChild p) ∷ []) pt t (no_child_loose, tt) h) (λ n off child sane on. (
-      PutFits.Own (own_outside pt sane) (own_fresh pt sane) (migrate_to pt.kernel pt.view pt.addresses t (own_id pt.view) p n child (on.links (Child n) p (child_is pt.kernel p n child)))
-          (λ k. migrate_from pt.kernel pt.view pt.addresses t (own_id pt.view) p first (on.trail manager)),
-      (λ next s. owns_leave MessageKind.Migrate p (pt.addresses (Child n)).at pt next t s h),
+    by_migrates (Walks pt t) pt p (loose_walks (Says Line.Away ∷ []) pt t (away_loose, tt) h) (loose_walks (Says (Line.NoChild p) ∷ []) pt t (no_child_loose, tt) h) (λ a there knows sane on. (
+      let seat : pt.view.seat ≡ pt.view.acting = acts there in
+          let here : pt.view.known pt.view.acting manager ≡ Here = sym (ap (λ (m : ℕ). pt.view.known m manager) seat) ∙ is_here_is (pt.view.known pt.view.seat manager) there in
+          let known : known_place pt.kernel pt.view pt.view.acting pt.addresses p ≡ Some a = sym (ap (λ (m : ℕ). known_place pt.kernel pt.view m pt.addresses p) seat) ∙ knows in
+          PutFits.Own (own_outside pt sane) (own_fresh pt sane) (migrate_to pt.kernel pt.view pt.addresses t (own_id pt.view) p a known (known_on pt t p a here h on.links known))
+          (λ k. migrate_from pt.kernel pt.view pt.addresses t (own_id pt.view) p (at_end pt t manager here h)),
+      (λ next s. owns_leave MessageKind.Migrate p a.at pt next t s h),
     ))
 
 -- a migration is called off: what was held goes back to the source, which holds the process
@@ -430,7 +457,7 @@ outcome_walks b pt t d ps base known h unmoved at = by_outcome (λ x. Walks (beg
   hears = λ m i is xs box none e. own_walks b pt t m i is xs base (begins pt m base known) h at box none e;
   ticks = λ m xs net. loose_walks xs (begun pt (Step.Tick m)) t (net_loose xs net) (head_places pt.view t (Step.Tick m) at);
   delivers = λ a c k xs net. loose_walks xs (begun pt (Step.Deliver a c k)) t (net_loose xs net) (head_places pt.view t (Step.Deliver a c k) at);
-  asks = λ p m. migrates_walks (begun pt (Step.Migrate p m)) t p refl (head_places pt.view t (Step.Migrate p m) at);
+  asks = λ p m. migrates_walks (begun pt (Step.Migrate p m)) t p (λ there. sym (ap (λ (c : Bool). if c then pt.view.seat else 0) there)) (head_places pt.view t (Step.Migrate p m) at);
   calls = λ p m. (
       let start = begun pt (Step.CallOff p m) in
       let places = head_places pt.view t (Step.CallOff p m) at in

@@ -1,11 +1,12 @@
 -- The trails that printed lines lay stand, and from each place that is named for a process the forwarding addresses lead to it.
 use Rattle.dm_movelaws.proofs.Names.{◌≡◌, ◌≢◌, ℕ, suc, ◌-◌, ◌==◌, true, false, List, [], ◌∷◌, ◌++◌, length, refl, ap, ◌∙◌, sym, subst, inl, inr, arith, cases_Bool, slice_get_within, slice_get, Option, None, Some, Pid, Place, Boot, IsValid}
-use Rattle.dm_movelaws.proofs.Names.{bind, Step, bind-is, Line, unmoved, Leads, Point, first_point, after, after_line, Trails, Trail, IsOn, Trodden, first_trodden, along, trails_after, View, Known, Unknown, Here, Forward, along_treads}
+use Rattle.dm_movelaws.proofs.Names.{bind, Step, bind-is, Line, unmoved, Leads, Point, first_point, after, after_line, Trails, Trail, IsOn, Trodden, first_trodden, along, trails_after, View, Known, Unknown, Forward, along_treads}
 use Rattle.dm_movelaws.proofs.Names.{treads_start, trail_leads, Treads, is_away, is_alive, ◌<◌, Bool, is_server, is_fixed, agrees, LeadsBy, made_free, is_made, ends_walk, IsNamed, Reaches, IsLast, TrailStands, TrailsStand, IsLed}
-use Rattle.dm_movelaws.proofs.Names.{AddressesLead, nat_tests, has_it}
+use Rattle.dm_movelaws.proofs.Names.{AddressesLead, nat_tests, has_it, not_true, false≢true, is_some, ◌||◌}
 use Rattle.dm_movelaws.proofs.After.{group_after}
 use Rattle.dm_movelaws.proofs.Trail.Known.{Holds, at_home, carries, ranges_in, none_is, made_by, passed_always}
 use Rattle.dm_movelaws.proofs.Trail.Placed.{is_held}
+use Rattle.dm_rulelaws.proofs.Calling.{neither}
 
 abbrev trodden : Point → Trails → Trodden
 trodden pt t = record { point = pt; trails = t }
@@ -56,20 +57,14 @@ one_place _ m long e = absurd (omega (arith, long))
 walk_ends : (k : Known) → k ≢ Unknown → ((m c : ℕ) → k ≡ Forward m c → ⊥) → ends_walk k ≡ true
 walk_ends k some off = grind (arith, nat_tests)
 
--- what was never made
-alone_long : (b : Boot) (pt : Point) (t : Trails) (p : Pid) → Holds b (trodden pt t) → pt.kernel.processes p ≡ None → length (t p) ≡ 1
-alone_long b pt t p h none = elim (cases_Bool (is_server p)) [
-  | inl server ↦
-      let here : pt.view.known 0 p ≡ Here = h.both.run.based.known.server 0 p server in
-      let long = (h.places p).long 0 (ap is_held here) in
-      let moves = h.both.run.based.unmoved p none in
-      omega (arith, long, moves)
-  | inr process ↦
-      let unknown : (m : ℕ) → pt.view.known m p ≡ Unknown = λ m. (let e_ : (pt.view.known m p) ≡ Unknown = grind (arith, nat_tests, sym (ap (agrees (pt.view.known m p)) none) ∙ h.both.run.based.known.agree m p process) in e_) in
-      let long = (h.places p).gone (λ m. ap is_away (unknown m)) in
-      let moves = h.both.run.based.unmoved p none in
-      omega (arith, long, moves)
-]
+alone_long : (b : Boot) (pt : Point) (t : Trails) (p : Pid) → Holds b (trodden pt t) → is_made pt.kernel p ≡ false → length (t p) ≡ 1
+alone_long b pt t p h unmade =
+    let off = neither (is_server p) (is_some (pt.kernel.processes p)) unmade in
+    let none : pt.kernel.processes p ≡ None = none_is (pt.kernel.processes p) off.1 in
+    let unknown : (m : ℕ) → pt.view.known m p ≡ Unknown = λ m. (let e_ : (pt.view.known m p) ≡ Unknown = grind (arith, nat_tests, sym (ap (agrees (pt.view.known m p)) none) ∙ h.both.run.based.known.agree m p off.0) in e_) in
+    let long = (h.places p).gone (λ m. ap is_away (unknown m)) in
+    let moves = h.both.run.based.unmoved p off.0 none in
+    omega (arith, long, moves)
 
 -- a forward leads further along the trail
 no_further : (lives : Bool) (v : View) (t : Trails) (p : Pid) (place : Place) (m c : ℕ) → Trail lives v t p → IsLast t p place → v.known place.at p ≡ Forward m c → ⊥
@@ -85,12 +80,18 @@ reaches b pt t p place h on made is =
     trail_leads (is_alive pt.kernel p) pt.view t p n p.home place (on.trail p) (λ lives. at_home pt.kernel pt.view p h.both.run.based.known lives)
     (λ c m e. subst (λ (k : ℕ). m < k) machines ((ranges_in b (trodden pt t) h).within p made c m e)) is
 
-alone : (b : Boot) (pt : Point) (t : Trails) (p : Pid) → Holds b (trodden pt t) → Treads pt t → pt.kernel.processes p ≡ None → t p ≡ p.home ∷ []
-alone b pt t p h on none = one_place (t p) p.home (alone_long b pt t p h none) (on.trail p).begins
+alone : (b : Boot) (pt : Point) (t : Trails) (p : Pid) → Holds b (trodden pt t) → Treads pt t → is_made pt.kernel p ≡ false → t p ≡ p.home ∷ []
+alone b pt t p h on unmade = one_place (t p) p.home (alone_long b pt t p h unmade) (on.trail p).begins
 
--- what was never made has only been at home
-never_made : (b : Boot) (pt : Point) (t : Trails) (p : Pid) → Holds b (trodden pt t) → is_fixed p ≡ true → pt.kernel.processes p ≡ None
-never_made b pt t p h fixed = grind (arith, nat_tests, made_free, none_is)
+-- kernels were never made
+no_kernel : (p : Pid) → is_server p ≡ true → is_fixed p ≡ false
+no_kernel p e = grind (arith, nat_tests)
+
+never_made : (b : Boot) (pt : Point) (t : Trails) (p : Pid) → Holds b (trodden pt t) → is_fixed p ≡ true → is_made pt.kernel p ≡ false
+never_made b pt t p h fixed = not_true (is_made pt.kernel p) (λ made. elim (cases_Bool (is_server p)) [
+  | inl server ↦ false≢true (sym (no_kernel p server) ∙ fixed)
+  | inr off ↦ false≢true (sym (made_free pt p h.both.run.based.phased.sane.sound.made (sym (ap (λ (c : Bool). c || is_some (pt.kernel.processes p)) off) ∙ made)) ∙ fixed)
+])
 
 -- each place that is named is on the trail
 named_on : (pt : Point) (t : Trails) (q : Pid) (place : Place) → Treads pt t → IsNamed pt q place → IsOn t q place
@@ -104,7 +105,7 @@ stand_at : (b : Boot) (pt : Point) (t : Trails) → Holds b (trodden pt t) → T
 stand_at b pt t h on = record {
   begins = λ p. (on.trail p).begins;
   fixed = λ p e. alone b pt t p h on (never_made b pt t p h e);
-  unmade = λ p none. alone b pt t p h on none;
+  unmade = λ p unmade. alone b pt t p h on unmade;
   named = λ q place is. named_on pt t q place on is;
   last = λ m p e. record { on = (h.places p).now m (held_it (pt.view.known m p) e); long = (h.places p).long m (held_it (pt.view.known m p) e) };
   coming = λ m k c p e f. record { on = (h.places p).next m k c e f; long = (let long = (h.places p).longer m k c e f in omega (arith, long)) };

@@ -2,10 +2,10 @@
 use Rattle.dm_movelaws.proofs.Names.{◌&&◌, ◌≡◌, ◌⊎◌, ℕ, ◌<◌, ◌≤◌, ◌==◌, Bool, true, false, not, [], ◌++◌, refl, ap, ◌∙◌, sym, inl, inr, nat_lt, arith, if◌then◌else◌, cases_Bool, false≢true, nat_tests, Option, None, Some, Pid, Place, pid_eq}
 use Rattle.dm_movelaws.proofs.Names.{MsgId, Boot, switchboard, manager, OneKernel, pid_eq-same, Step, Addresses, Holder, belongs_to, leads_to, is_behind, place_told, updated, holders_of, behind_among, behind_count, holders_numbered}
 use Rattle.dm_movelaws.proofs.Names.{answers_in, slot_holders, Spelled, Point, View, Told, About, Unknown, after_head, is_server, KnownStands, Updated, UpdatesAlways, front_own, Both, is_place, own_sort, run_always, pid_there, second, zero}
-use Rattle.dm_movelaws.proofs.Names.{suc, ◌+◌, List, ◌∷◌, length, slice_get, slice_get_cases, PlainLink, link_at, NamedLink, Pending, PlainProcess, pid_eq-is, not_server, alive-is, Slot, Owner, Child, Name, Answer, holder_eq, link_target}
+use Rattle.dm_movelaws.proofs.Names.{suc, ◌+◌, List, ◌∷◌, length, slice_get, slice_get_cases, PlainLink, link_at, NamedLink, Pending, PlainProcess, pid_eq-is, not_server, alive-is, Slot, Owner, Child, Name, Answer, ToBoard, holder_eq, link_target}
 use Rattle.dm_movelaws.proofs.Names.{ascends, listings, is_owner, group_is, ◌||◌, MessageKind, plain_kind, Line, Part, Says, lines_of, spelled, moved, GroupIs, by_parts, sends_on, by_migrates, by_hears, option_and_then, option_map_or}
-use Rattle.dm_movelaws.proofs.Names.{by_net, by_outcome, ⊤, PlainMessage, forwards_on, Loose, loose_round, loose_handles, by_forwards, by_calls_off, to_kernel, false_from_ne_true, Known, preds_of, buries_kept, Run, Inbox, standing}
-use Rattle.dm_movelaws.proofs.Names.{server_fixed, is_fixed, is_alive, is_some, stands_first, neither_}
+use Rattle.dm_movelaws.proofs.Names.{by_net, by_outcome, ⊤, PlainMessage, forwards_on, Loose, loose_round, loose_handles, by_forwards, by_calls_off, to_kernel, false_from_ne_true, preds_of, buries_kept, Run, Inbox, standing}
+use Rattle.dm_movelaws.proofs.Names.{is_alive, is_some, stands_first}
 use Rattle.dm_laws.proofs.Entered.{Made}
 use Rattle.dm_movelaws.proofs.Leading.{lines_are}
 use Rattle.dm_onekernel.specs.Step as kernel
@@ -210,6 +210,22 @@ no_child : {X : Type 0} (k n : ℕ) (xs : List X) → listings (Answer k) (holde
 no_child k n [] = refl
 no_child k n (x ∷ xs) = let f = no_child k (n + 1) xs in omega (arith, f)
 
+-- where the switchboard is
+no_child_board : {X : Type 0} (n : ℕ) (xs : List X) → listings ToBoard (holders_numbered Child n xs) ≡ 0
+no_child_board n [] = refl
+no_child_board n (x ∷ xs) = let f = no_child_board (n + 1) xs in omega (arith, f)
+
+no_answer_board : (rs : List Pending) → listings ToBoard (answers_in rs) ≡ 0
+no_answer_board [] = refl
+no_answer_board (r ∷ rs) = let f = no_answer_board rs in omega (arith, f)
+
+-- all that the manager has
+managers : (h : Holder) (s : OneKernel) → listings h (holders_numbered Child 1 s.manager.children ++ answers_in s.manager.pending ++ ToBoard ∷ []) ≡ listings h (holders_numbered Child 1 s.manager.children) + (listings h (answers_in s.manager.pending) + listings h (ToBoard ∷ []))
+managers h s =
+    let last = listings-append h (holders_numbered Child 1 s.manager.children ++ answers_in s.manager.pending) (ToBoard ∷ []) in
+    let first = listings-append h (holders_numbered Child 1 s.manager.children) (answers_in s.manager.pending) in
+    omega (arith, last, first)
+
 -- each by what it belongs to
 slot_link : (o : Option PlainProcess) (k : ℕ) (q : Pid) → link_target (option_and_then (λ x. link_at x.links k) o) ≡ Some q → (x : PlainProcess) × (o ≡ Some x) × (k < length x.links)
 slot_link None k q e = absurd (let f : None ≡ Some q = e in cc)
@@ -221,7 +237,7 @@ slot_link (Some x) k q e = (x, refl, at_place x.links k q e)
     at_place (l ∷ ls) (suc k) q e = let f = at_place ls k q e in let long : length (l ∷ ls) ≡ length ls + 1 = omega arith in omega (arith, long, f)
 
 abbrev listed_as : OneKernel → Pid → Bool → Bool → List Holder
-listed_as s q c d = if c then holders_numbered Name 0 s.switchboard.names else if d then holders_numbered Child 1 s.manager.children ++ answers_in s.manager.pending else slot_holders q (kernel.alive (s.processes q))
+listed_as s q c d = if c then holders_numbered Name 0 s.switchboard.names else if d then holders_numbered Child 1 s.manager.children ++ answers_in s.manager.pending ++ ToBoard ∷ [] else slot_holders q (kernel.alive (s.processes q))
 
 not_board : (q : Pid) → pid_eq q manager ≡ true → pid_eq q switchboard ≡ false
 not_board q e = grind (arith, nat_tests)
@@ -245,15 +261,32 @@ listed s q (Child (suc n)) r made up mine other leads =
     let within = got s.manager.children n r leads in
     let once : listings (Child (suc n)) (holders_numbered Child 1 s.manager.children) ≡ 1 = numbered_once Child (suc n) 1 s.manager.children (record { eq = λ i j. refl }) (omega arith) (omega (arith, within)) in
     let none = no_answer (suc n) s.manager.pending in
-    let sum = listings-append (Child (suc n)) (holders_numbered Child 1 s.manager.children) (answers_in s.manager.pending) in
+    let sum = managers (Child (suc n)) s in
+    let last : listings (Child (suc n)) (ToBoard ∷ []) ≡ 0 = refl in
     ap (λ (c : Bool). listings (Child (suc n)) (listed_as s q c (pid_eq q manager))) (not_board q mine)
     ∙ ap (λ (c : Bool). listings (Child (suc n)) (listed_as s q false c)) mine
-    ∙ (let f : listings (Child (suc n)) (holders_numbered Child 1 s.manager.children ++ answers_in s.manager.pending) ≡ 1 = omega (arith, once, none, sum) in f)
+    ∙ (let f : listings (Child (suc n)) (holders_numbered Child 1 s.manager.children ++ answers_in s.manager.pending ++ ToBoard ∷ []) ≡ 1 = omega (arith, once, none, sum, last) in f)
 listed s q (Name n) r made up mine other leads =
     let (k, there) = (let e_ : (k : NamedLink) × ((slice_get s.switchboard.names n) ≡ Some k) = grind (arith, nat_tests) in e_) in
     ap (λ (c : Bool). listings (Name n) (listed_as s q c (pid_eq q manager))) mine
     ∙ numbered_once Name n 0 s.switchboard.names (record { eq = λ i j. refl }) (omega arith) (let f = got s.switchboard.names n k there in omega (arith, f))
-listed s q (Answer n) r made up mine other leads = grind (arith, nat_tests, answers_once, no_child, listings-append, not_board)
+listed s q (Answer n) r made up mine other leads =
+    let (k, there) = (let e_ : (k : Pending) × ((manage.pending_numbered n s.manager.pending) ≡ Some k) = grind (arith, nat_tests) in e_) in
+    let none = no_child n 1 s.manager.children in
+    let once = answers_once n 0 s.manager.sent s.manager.pending k up there in
+    let sum = managers (Answer n) s in
+    let last : listings (Answer n) (ToBoard ∷ []) ≡ 0 = refl in
+    ap (λ (c : Bool). listings (Answer n) (listed_as s q c (pid_eq q manager))) (not_board q mine)
+    ∙ ap (λ (c : Bool). listings (Answer n) (listed_as s q false c)) mine
+    ∙ (let f : listings (Answer n) (holders_numbered Child 1 s.manager.children ++ answers_in s.manager.pending ++ ToBoard ∷ []) ≡ 1 = omega (arith, once, none, sum, last) in f)
+listed s q ToBoard r made up mine other leads =
+    let child = no_child_board 1 s.manager.children in
+    let answer = no_answer_board s.manager.pending in
+    let sum = managers ToBoard s in
+    let once : listings ToBoard (ToBoard ∷ []) ≡ 1 = refl in
+    ap (λ (c : Bool). listings ToBoard (listed_as s q c (pid_eq q manager))) (not_board q mine)
+    ∙ ap (λ (c : Bool). listings ToBoard (listed_as s q false c)) mine
+    ∙ (let f : listings ToBoard (holders_numbered Child 1 s.manager.children ++ answers_in s.manager.pending ++ ToBoard ∷ []) ≡ 1 = omega (arith, once, child, answer, sum) in f)
 listed s q _ r made up mine other leads = absurd (false≢true mine)
 
 -- what it tells
@@ -283,13 +316,8 @@ record Linkless (s : OneKernel) (q : Pid) : Type 0 where
 ended_loose : (b : Boot) (pt : Point) (m : ℕ) (id : MsgId) (t : Told) → Run b pt → 1 ≤ standing pt.view id (Inbox m) → pt.view.told id ≡ Some t → pt.view.known m t.receiver ≡ Unknown → (t.receiver.num == 0) ≡ false → Linkless pt.kernel t.receiver
 ended_loose b pt m id t run stands told unknown other =
     let q = t.receiver in
-    let server : is_server q ≡ false = false_from_ne_true (is_server q) (λ is.
-    let fixed = server_fixed q is in
-    let home : m ≡ 0 = run.found.fixed id (Inbox m) t stands told fixed.0 ∙ fixed.1 in
-    let here : pt.view.known m q ≡ Known.Here = ap (λ (n : ℕ). pt.view.known n q) home ∙ run.based.known.server 0 q is in
-    (let e : Known.Here ≡ Unknown = sym here ∙ unknown in cc)) in
-    let loose : is_fixed q ≡ false = neither_ (q.num == 0) (is_server q) other server in
-    let dead : is_alive pt.kernel q ≡ false = false_from_ne_true (is_alive pt.kernel q) (λ lives. run.found.process id (Inbox m) t stands told loose lives unknown) in
+    let dead : is_alive pt.kernel q ≡ false = false_from_ne_true (is_alive pt.kernel q) (λ lives. run.found.process id (Inbox m) t stands told other lives unknown) in
+    let server : is_server q ≡ false = false_from_ne_true (is_server q) (λ is. false≢true (sym dead ∙ ap (λ (c : Bool). c || is_some (kernel.alive (pt.kernel.processes q))) is)) in
     record { server = server; lives = dead_none (kernel.alive (pt.kernel.processes q)) (sym (ap (λ (c : Bool). c || is_some (kernel.alive (pt.kernel.processes q))) server) ∙ dead) }
   where
     dead_none : {X : Type 0} (o : Option X) → is_some o ≡ false → o ≡ None

@@ -2,10 +2,9 @@
 use Rattle.dm_places.proofs.Names.{◌≡◌, ◌+◌, ◌++◌, false, List, [], ◌∷◌, refl, ◌∙◌, sym, subst, inl, inr, if◌then◌else◌, option_map, Option, None, Some, cases_Bool, Pid, Place, pid_eq, applied, MsgId, Process, sent_on, manager, arith}
 use Rattle.dm_places.proofs.Names.{nat_tests, switchboard, OneKernel, plain_process, pid_eq-is, Line, Stage, Told, View, handled, own_id, receiver_of, view_after, Addresses, Receiver, all_follow, forwards, gets, given, is_told_back}
 use Rattle.dm_places.proofs.Names.{place_known, place_told, told_back_gets, updated, updated_to, Point, after_line, moved, Placed, Mirrors, with_message, with_process, KeepsPlaces, LineNeeds, MirrorsPoint, ServersApart}
-use Rattle.dm_migrate.specs.Way as way
 use Rattle.dm_onekernel.specs.Step as kernel
 use Rattle.dm_places.proofs.Following.Changed.{sent_on_any}
-use Rattle.dm_places.proofs.Following.Followed.{moves_forwarded, restarted_mirrors, tells_mirrors}
+use Rattle.dm_places.proofs.Following.Followed.{absent_moved, come_on, moves_forwarded, restarted_mirrors, server_moved, tells_mirrors}
 use Rattle.dm_places.proofs.Steps.{label_follows}
 use Rattle.dm_places.proofs.Lines.{lines_keep, mirrors_view}
 use Rattle.dm_places.proofs.OwnPuts.{absent_put_mirrors}
@@ -71,12 +70,9 @@ update_follows s v a l (Some t) apart h = elim (place_told t.about) as (λ o. So
     [ None ↦ record { l = l; mirrors = h } | Some w ↦ receiver_follows s v a l t.receiver w.0 w.1 apart h ]
 
 -- a process has come, or has ended on the way
-absent_comes : (v : View) (p q : Pid) (l : Placed) (x : Process) → l.processes p ≡ None → l.processes q ≡ Some x → (if pid_eq p q then v.moves p + 1 else v.moves q) ≡ v.moves q
-absent_comes v p q l x none there = grind (arith, nat_tests, pid_eq-is)
-
 comes : (pt : Point) (l : Placed) (p : Pid) (o : Option Process) → l.processes p ≡ o → MirrorsPoint pt l → Stands (moved pt (Line.Migration Stage.Restarted p) pt.kernel)
-comes pt l p (Some x) there h = record { l = with_process l p (Some (way.moved x)); mirrors = restarted_mirrors pt l p x h there }
-comes pt l p None none h = search (arith, absent_comes)
+comes pt l p (Some x) there h = record { l = server_moved p (with_process l p (Some (come_on x))); mirrors = restarted_mirrors pt l p x h there }
+comes pt l p None none h = record { l = server_moved p l; mirrors = absent_moved pt l p none h }
 
 -- a line
 keeps : (pt pt' : Point) (l : Placed) (x : Line) → KeepsPlaces pt x → MirrorsPoint pt l → after_line pt x ≡ Some pt' → Stands pt'

@@ -1,10 +1,9 @@
 -- Wherever the rule leads there is a kernel with places, where something holds at each point that gives what groups need.
-use Rattle.dm_places.proofs.Names.{◌≡◌, ℕ, ◌≤◌, ◌||◌, true, List, [], ◌∷◌, is_some, refl, sym, subst, arith, Option, None, Some, nat_tests, Pid, pid_eq, MsgId, PlainMessage, Boot, IsValid, manager, switchboard, Step, start-sound, ascends}
-use Rattle.dm_places.proofs.Names.{IsStep, Leads, Spelled, Point, first_point, group_of, Inbox, Spot, standing, times, TellsRight, Told, Placed, placed_start, GroupNeeds, MirrorsPoint, PlainWhat, id_of}
+use Rattle.dm_places.proofs.Names.{◌≡◌, ℕ, ◌||◌, Bool, true, false, List, [], ◌∷◌, is_some, refl, subst, Option, None, Some, Life, Pid, MsgId, PlainMessage, Boot, IsValid, manager, Step, start-sound, ascends}
+use Rattle.dm_places.proofs.Names.{IsStep, Leads, Spelled, Point, first_point, group_of, Placed, placed_start, GroupNeeds, MirrorsPoint, PlainWhat, id_of, is_server}
 use Rattle.dm_places.proofs.Any.AnyGroup.{group_follows}
 use Rattle.dm_places.proofs.Any.AnyPart.{SoundAt}
 use Rattle.dm_places.proofs.Starts.{start_mirrors}
-use Rattle.dm_rule.proofs.Phases.Leaves.{first_of}
 
 -- from a point on, and from the start
 pub run_follows : (b : Boot) (Holds : Point → Type 0) → ((p : Point) → Holds p → GroupNeeds p) → ((p : Point) (d : Step) (w : Spelled) → IsStep p.kernel.machines d → group_of b p d ≡ Some w → Holds p → Holds w.point)
@@ -19,22 +18,16 @@ pub places_follow_by : (b : Boot) (Holds : Point → Type 0) → ((p : Point) �
 places_follow_by b Holds gives goes es pt valid first leads =
     run_follows b Holds gives goes es (first_point b) pt (placed_start b) leads first (record { r = λ i. 0; e = λ i. 0; sound = start-sound b valid }) (start_mirrors b)
 
-server_home : (q : Pid) → (pid_eq q switchboard || pid_eq q manager) ≡ true → q.home ≡ 0
-server_home q e = grind (arith, nat_tests)
+not_either : (server : Bool) (o : Option Life) → (server || is_some o) ≡ false → (server ≡ false) × (o ≡ None)
+not_either false None e = (refl, refl)
+not_either false (Some life) e = absurd cc
+not_either true o e = absurd cc
 
-server_by : (pt : Point) (m : ℕ) (i : MsgId) (x : PlainMessage) (o : Option Told) → pt.view.told i ≡ o → is_some o ≡ true → pt.kernel.bag i ≡ Some x → TellsRight pt → 1 ≤ standing pt.view i (Inbox m)
-    → ((t : Told) → pt.view.told i ≡ Some t → (pid_eq t.receiver switchboard || pid_eq t.receiver manager) ≡ true → m ≡ t.receiver.home) → (pid_eq x.to switchboard || pid_eq x.to manager) ≡ true → m ≡ 0
-server_by pt m i x o h1 h2 h3 h4 h5 h6 h7 = grind (arith, nat_tests, server_home)
-
-pub group_needs : (pt : Point) → ascends 0 pt.kernel.manager.pending pt.kernel.manager.sent ≡ true → ((p : Pid) → pt.kernel.processes p ≡ None → pt.view.moves p ≡ 0) → TellsRight pt
-    → ((i : MsgId) (z : Spot) → 1 ≤ standing pt.view i z → is_some (pt.view.told i) ≡ true)
-    → ((i : MsgId) (m : ℕ) (t : Told) → 1 ≤ standing pt.view i (Inbox m) → pt.view.told i ≡ Some t → (pid_eq t.receiver switchboard || pid_eq t.receiver manager) ≡ true → m ≡ t.receiver.home)
+-- what each point of the rule gives: servers count their moves, and what was never made has none
+pub group_needs : (pt : Point) → ascends 0 pt.kernel.manager.pending pt.kernel.manager.sent ≡ true → ((p : Pid) → is_server p ≡ false → pt.kernel.processes p ≡ None → pt.view.moves p ≡ 0)
     → ((i : MsgId) (x : PlainMessage) (machine : ℕ) → pt.kernel.bag i ≡ Some x → x.what ≡ PlainWhat.Move machine → i ≡ id_of manager i.n) → GroupNeeds pt
-group_needs pt pending unmoved tells told fixed asks = record {
-  asks = asks;
+group_needs pt pending unmoved asks = record {
   pending = pending;
-  unmoved = unmoved;
-  server = λ m i is x inbox there to.
-      let stands : 1 ≤ standing pt.view i (Inbox m) = subst (λ (js : List MsgId). 1 ≤ times i js) (sym inbox) (first_of i is) in
-      server_by pt m i x (pt.view.told i) refl (told i (Inbox m) stands) there tells stands (λ t e to_. fixed i m t stands e to_) to;
+  unmoved = λ p e. let parts = not_either (is_server p) (pt.kernel.processes p) e in unmoved p parts.0 parts.1;
+  asks = asks;
 }

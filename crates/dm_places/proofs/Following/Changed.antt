@@ -31,6 +31,9 @@ places_message v a b l id m h processes off on servers = record {
   child = λ n c e. servers.child n ∙ h.child n c e;
   answer = λ n r e. answer_as r.answer (servers.answer n) (h.answer n r e);
   asker = λ p k e. servers.asked p ∙ h.asker p k e;
+  board = servers.board ∙ h.board;
+  board_moves = h.board_moves;
+  manager_moves = h.manager_moves;
 }
 
 pub this_message : (a : Addresses) (i : MsgId) (m : Message) → MirrorsMessage a i m → (x : Message) → Some m ≡ Some x → MirrorsMessage a i x
@@ -51,14 +54,21 @@ sent_on_one s v a l id x at moves there h =
       plain = kernel_again s l id (Some (sent_on at moves x)) (plain_sent_on at moves x ∙ sym (ap (λ (o : Option Message). bind o plain_message) there) ∙ h.plain.bag id) h.plain;
       places = places_message v a b l id (Some (sent_on at moves x)) h.places (λ q. record { slot = λ k. refl; owner = refl })
           (λ i y f apart. record { receiver = ap (λ (c : Bool). if c then place else a (Receiver i)) apart; sender = refl; enclosed = λ k. refl })
-          (this_message b id (sent_on at moves x) on) (record { child = λ n. refl; name = λ n. refl; answer = λ n. refl; asked = λ q. refl });
+          (this_message b id (sent_on at moves x) on) (record { child = λ n. refl; name = λ n. refl; answer = λ n. refl; asked = λ q. refl; board = refl });
     }
 
 -- the same where there may be no message
 pub sent_on_any : (s : OneKernel) (v : View) (a : Addresses) (l : Placed) (id : MsgId) (o : Option Message) (place : Place) → l.bag id ≡ o → Mirrors s v a l
     → Mirrors s v (given a (gets (Receiver id) place ∷ [])) (with_message l id (option_map (sent_on place.at place.moves) o))
 sent_on_any s v a l id (Some x) place there h = sent_on_one s v a l id x place.at place.moves there h
-sent_on_any s v a l id None place none h = search (arith, kernel_again, places_message)
+sent_on_any s v a l id None place none h =
+    let b = given a (gets (Receiver id) place ∷ []) in
+    record {
+      plain = kernel_again s l id None (sym (ap (λ (o : Option Message). bind o plain_message) none) ∙ h.plain.bag id) h.plain;
+      places = places_message v a b l id None h.places (λ q. record { slot = λ k. refl; owner = refl })
+          (λ i y f apart. record { receiver = ap (λ (c : Bool). if c then place else a (Receiver i)) apart; sender = refl; enclosed = λ k. refl })
+          (λ x e. absurd (let z : None ≡ Some x = e in cc)) (record { child = λ n. refl; name = λ n. refl; answer = λ n. refl; asked = λ q. refl; board = refl });
+    }
 
 -- the addresses of a message that isn't there
 pub free_off : (l : Placed) (i j : MsgId) (m : Message) → l.bag i ≡ None → l.bag j ≡ Some m → id_eq i j ≡ false
@@ -76,5 +86,8 @@ free_mirrors s v a l i to from none h =
         child = g.child;
         answer = g.answer;
         asker = g.asker;
+        board = g.board;
+        board_moves = g.board_moves;
+        manager_moves = g.manager_moves;
       };
     }

@@ -1,9 +1,8 @@
 -- Messages that follow a process to another machine, and the process that has come there.
 use Rattle.dm_places.proofs.Names.{◌≡◌, ℕ, ◌+◌, ◌≤◌, ◌||◌, Bool, true, List, [], ◌∷◌, ◌++◌, refl, ap, ◌∙◌, sym, subst, inl, inr, arith, if◌then◌else◌, option_map, Option, None, Some, cases_Bool, Pid, Place, place_of, MsgId, nat_tests}
 use Rattle.dm_places.proofs.Names.{Message, id_eq, Process, sent_on, OneKernel, plain_process, id_eq-is, id_eq-same, id_eq-swap, pid_eq-is, pid_eq-same, Line, Stage, at_pid, times, Forward, Frozen, Told, View, forwarded_for, handled}
-use Rattle.dm_places.proofs.Names.{own_id, receiver_of, view_after, Addresses, Gets, Receiver, Sender, all_follow, forwards, gets, given, is_told_back, place_known, told_back_gets, unmoved, Point, moved, Placed, Mirrors, MirrorsKernel}
-use Rattle.dm_places.proofs.Names.{MirrorsProcess, with_message, with_process, MirrorsPoint, is_among, sent_all, or_first, Known, Incoming}
-use Rattle.dm_migrate.specs.Way as way
+use Rattle.dm_places.proofs.Names.{own_id, receiver_of, view_after, Addresses, Gets, Receiver, Sender, all_follow, forwards, gets, given, is_told_back, place_known, told_back_gets, unmoved, Point, moved, Placed, Mirrors, MirrorsKernel, false}
+use Rattle.dm_places.proofs.Names.{MirrorsProcess, with_message, with_process, MirrorsPoint, is_among, sent_all, or_first, Known, Incoming, pid_eq, switchboard, manager}
 use Rattle.dm_onekernel.specs.Step as kernel
 use Rattle.dm_places.proofs.Following.Changed.{free_mirrors, free_off, sent_on_any, sent_on_one}
 use Rattle.dm_places.proofs.Lines.{mirrors_view}
@@ -110,17 +109,45 @@ alive_again s l p x y q there same h = grind (arith, nat_tests, pid_eq-is, optio
 pub kernel_process_again : (s : OneKernel) (l : Placed) (p : Pid) (x y : Process) → l.processes p ≡ Some x → plain_process y ≡ plain_process x → MirrorsKernel s l → MirrorsKernel s (with_process l p (Some y))
 kernel_process_again s l p x y there same h = search alive_again
 
+-- a process that has come has moved once more, and nothing waits for it
+abbrev pub come_on : Process → Process
+come_on x = record x { moves = x.moves + 1; queue = [] }
+
 moved_places : (v w : View) (a : Addresses) (l : Placed) (p : Pid) (x : Process) (q : Pid) (z : Process) → w.moves ≡ at_pid v.moves p (v.moves p + 1) → l.processes p ≡ Some x → ((r : Pid) (y : Process) → l.processes r ≡ Some y → MirrorsProcess v a r y)
-    → (with_process l p (Some (way.moved x))).processes q ≡ Some z → MirrorsProcess w a q z
+    → (with_process l p (Some (come_on x))).processes q ≡ Some z → MirrorsProcess w a q z
 moved_places v w a l p x q z counts there h e = search (arith, pid_eq-same, pid_eq-is)
 
-pub restarted_mirrors : (pt : Point) (l : Placed) (p : Pid) (x : Process) → MirrorsPoint pt l → l.processes p ≡ Some x → MirrorsPoint (moved pt (Line.Migration Stage.Restarted p) pt.kernel) (with_process l p (Some (way.moved x)))
+-- how often a server has moved, where one of this name has moved once more
+count_moved : (v : View) (p q : Pid) (n : ℕ) → n ≡ v.moves q → (if pid_eq p q then n + 1 else n) ≡ at_pid v.moves p (v.moves p + 1) q
+count_moved v p q n same = elim (cases_Bool (pid_eq p q)) [
+  | inl is ↦
+      ap (λ (c : Bool). if c then n + 1 else n) is ∙ ap (λ (k : ℕ). k + 1) (same ∙ ap v.moves (sym (pid_eq-is p q is)))
+      ∙ sym (ap (λ (c : Bool). if c then v.moves p + 1 else v.moves q) is)
+  | inr apart ↦ ap (λ (c : Bool). if c then n + 1 else n) apart ∙ same ∙ sym (ap (λ (c : Bool). if c then v.moves p + 1 else v.moves q) apart)
+]
+
+abbrev pub server_moved : Pid → Placed → Placed
+server_moved p l =
+    record l {
+      board = record l.board { moves = if pid_eq p switchboard then l.board.moves + 1 else l.board.moves };
+      manager = record l.manager { moves = if pid_eq p manager then l.manager.moves + 1 else l.manager.moves };
+    }
+
+-- what is no server leaves the servers as they are
+pub server_stays : (p : Pid) (l : Placed) → pid_eq p switchboard ≡ false → pid_eq p manager ≡ false → server_moved p l ≡ l
+server_stays p l no_board no_manager = λ i. record l {
+  board = record l.board { moves = (if no_board i then l.board.moves + 1 else l.board.moves) };
+  manager = record l.manager { moves = (if no_manager i then l.manager.moves + 1 else l.manager.moves) };
+}
+
+pub restarted_mirrors : (pt : Point) (l : Placed) (p : Pid) (x : Process) → MirrorsPoint pt l → l.processes p ≡ Some x → MirrorsPoint (moved pt (Line.Migration Stage.Restarted p) pt.kernel) (server_moved p (with_process l p (Some (come_on x))))
 restarted_mirrors pt l p x h there =
     let v = pt.view in
     let w = view_after v (Line.Migration Stage.Restarted p) in
     let g = h.places in
+    let k = kernel_process_again pt.kernel l p x (come_on x) there refl h.plain in
     record {
-      plain = kernel_process_again pt.kernel l p x (way.moved x) there refl h.plain;
+      plain = record { processes = k.processes; bag = k.bag; notes = k.notes; noted = k.noted; board = k.board; manager = k.manager; machines = k.machines; images = k.images; to_board = k.to_board };
       places = record {
         process = λ q z e. moved_places v w pt.addresses l p x q z refl there g.process e;
         message = g.message;
@@ -128,5 +155,48 @@ restarted_mirrors pt l p x h there =
         child = g.child;
         answer = g.answer;
         asker = g.asker;
+        board = g.board;
+        board_moves = count_moved v p switchboard l.board.moves g.board_moves;
+        manager_moves = count_moved v p manager l.manager.moves g.manager_moves;
+      };
+    }
+
+-- a process that is no server
+pub process_restarted : (pt : Point) (l : Placed) (p : Pid) (x : Process) → (pid_eq p switchboard || pid_eq p manager) ≡ false → MirrorsPoint pt l → l.processes p ≡ Some x → MirrorsPoint (moved pt (Line.Migration Stage.Restarted p) pt.kernel) (with_process l p (Some (come_on x)))
+process_restarted pt l p x other h there =
+    let no_board : pid_eq p switchboard ≡ false = grind (arith, nat_tests) in
+    let no_manager : pid_eq p manager ≡ false = grind (arith, nat_tests) in
+    subst (MirrorsPoint (moved pt (Line.Migration Stage.Restarted p) pt.kernel)) (server_stays p (with_process l p (Some (come_on x))) no_board no_manager) (restarted_mirrors pt l p x h there)
+
+-- of one that isn't there only its count rises
+absent_comes : (v : View) (p q : Pid) (l : Placed) (x : Process) → l.processes p ≡ None → l.processes q ≡ Some x → (if pid_eq p q then v.moves p + 1 else v.moves q) ≡ v.moves q
+absent_comes v p q l x none there = grind (arith, nat_tests, pid_eq-is)
+
+absent_places : (v w : View) (a : Addresses) (l : Placed) (p q : Pid) (x : Process) → w.moves ≡ at_pid v.moves p (v.moves p + 1) → l.processes p ≡ None → l.processes q ≡ Some x → MirrorsProcess v a q x → MirrorsProcess w a q x
+absent_places v w a l p q x counts none there h = record {
+  pid = h.pid;
+  moves = h.moves ∙ sym (ap (λ (f : Pid → ℕ). f q) counts ∙ absent_comes v p q l x none there);
+  slots = h.slots;
+  owner = h.owner;
+}
+
+pub absent_moved : (pt : Point) (l : Placed) (p : Pid) → l.processes p ≡ None → MirrorsPoint pt l → MirrorsPoint (moved pt (Line.Migration Stage.Restarted p) pt.kernel) (server_moved p l)
+absent_moved pt l p none h =
+    let v = pt.view in
+    let w = view_after v (Line.Migration Stage.Restarted p) in
+    let k = h.plain in
+    let g = h.places in
+    record {
+      plain = record { processes = k.processes; bag = k.bag; notes = k.notes; noted = k.noted; board = k.board; manager = k.manager; machines = k.machines; images = k.images; to_board = k.to_board };
+      places = record {
+        process = λ q x e. absent_places v w pt.addresses l p q x refl none e (g.process q x e);
+        message = g.message;
+        name = g.name;
+        child = g.child;
+        answer = g.answer;
+        asker = g.asker;
+        board = g.board;
+        board_moves = count_moved v p switchboard l.board.moves g.board_moves;
+        manager_moves = count_moved v p manager l.manager.moves g.manager_moves;
       };
     }

@@ -2,7 +2,7 @@
 use Rattle.dm_places.proofs.Names.{◌≡◌, ℕ, zero, suc, ◌==◌, Bool, true, false, List, [], ◌∷◌, map, refl, ap, ◌∙◌, sym, subst, inl, inr, if◌then◌else◌, nat_lt, option_map, slice_get, Option, None, Some, cases_Bool, slice_get-map, Pid, arith}
 use Rattle.dm_places.proofs.Names.{nat_tests, Addr, Link, pid_eq, place_of, relocated, retargeted, retargeted_link, plain_link, link_at, plain_map_retargeted, applied, status_after, MsgId, Process, Status, Line, manager, switchboard}
 use Rattle.dm_places.proofs.Names.{Manager, NamedLink, OneKernel, plain_process, plain_status, Named, retargeted_named, Pending, plain_child, plain_pending, retargeted_manager, retargeted_pending, child_address, pending_request, pid_eq-is}
-use Rattle.dm_places.proofs.Names.{pid_eq-same, pid_eq-swap, About, Told, View, view_after, Addresses, Answer, Child, Holder, Name, Owner, Slot, belongs_to, leads_to, link_target, owner_in, updated, updated_to, Point, PlainProcess, moved}
+use Rattle.dm_places.proofs.Names.{pid_eq-same, pid_eq-swap, About, Told, View, view_after, Addresses, Answer, Child, Holder, Name, Owner, Slot, ToBoard, belongs_to, leads_to, link_target, owner_in, updated, updated_to, Point, PlainProcess, moved}
 use Rattle.dm_places.proofs.Names.{SameMessage, SameProcess, Placed, Mirrors, MirrorsProcess, owner_at, MirrorsPoint, with_process, AnswerNames, option_and_then}
 use Rattle.dm_link.specs.Places as places
 use Rattle.dm_onekernel.specs.Kernel as one
@@ -96,6 +96,9 @@ process_told s v a l q r at moves x no_board no_manager there h =
         child = λ n c e. unled s a q r at moves (Child n) no_manager ∙ g.child n c e;
         answer = λ n y e. answer_as y.answer (unled s a q r at moves (Answer n) no_manager) (g.answer n y e);
         asker = g.asker;
+        board = unled s a q r at moves ToBoard no_manager ∙ g.board;
+        board_moves = g.board_moves;
+        manager_moves = g.manager_moves;
       };
     }
 
@@ -111,7 +114,7 @@ pub name_leads : (s : OneKernel) (v : View) (a : Addresses) (l : Placed) (n : �
 name_leads s v a l n k h there = grind (arith, nat_tests, slice_get, slice_get-map, option_map)
 
 abbrev pub board_told : Placed → Pid → ℕ → ℕ → Placed
-board_told l r at moves = record l { board = record { names = map (retargeted_named r at moves) l.board.names; sent = l.board.sent } }
+board_told l r at moves = record l { board = record l.board { names = map (retargeted_named r at moves) l.board.names } }
 
 pub switchboard_told : (s : OneKernel) (v : View) (a : Addresses) (l : Placed) (r : Pid) (at moves : ℕ) → l.processes switchboard ≡ None → Mirrors s v a l → Mirrors s v (told_of s a switchboard r at moves) (board_told l r at moves)
 switchboard_told s v a l r at moves none h =
@@ -129,6 +132,9 @@ switchboard_told s v a l r at moves none h =
         child = g.child;
         answer = g.answer;
         asker = g.asker;
+        board = g.board;
+        board_moves = g.board_moves;
+        manager_moves = g.manager_moves;
       };
     }
 
@@ -163,7 +169,19 @@ retargeted_names s a r at moves n o h1 h2 = search (arith, led)
 
 answer_follows : (s : OneKernel) (v : View) (a : Addresses) (l : Placed) (r : Pid) (at moves n : ℕ) (y : Pending) → Mirrors s v a l → pending_request n (map (retargeted_pending r at moves) l.manager.pending) ≡ Some y
     → AnswerNames y.answer (told_of s a manager r at moves (Answer n))
-answer_follows s v a l r at moves n y h e = search (arith, of_map, pending_map, retargeted_names, answer_leads)
+answer_follows s v a l r at moves n y h e =
+    let (u, there, is) = of_map (retargeted_pending r at moves) (pending_request n l.manager.pending) y (sym e ∙ pending_map r at moves n l.manager.pending) in
+    subst (λ (z : Pending). AnswerNames z.answer (told_of s a manager r at moves (Answer n))) is (retargeted_names s a r at moves n u.answer (answer_leads s v a l n u h there) (h.places.answer n u there))
+
+-- where the switchboard is
+retargeted_pid : (r : Pid) (at moves : ℕ) (o : Addr) → (retargeted r at moves o).pid ≡ o.pid
+retargeted_pid r at moves o = grind (arith, nat_tests)
+
+pub board_leads : (s : OneKernel) (v : View) (a : Addresses) (l : Placed) → Mirrors s v a l → leads_to s ToBoard ≡ Some l.manager.board.pid
+board_leads s v a l h = ap Some (sym h.plain.to_board)
+
+board_follows : (s : OneKernel) (v : View) (a : Addresses) (l : Placed) (r : Pid) (at moves : ℕ) → Mirrors s v a l → told_of s a manager r at moves ToBoard ≡ place_of (retargeted r at moves l.manager.board)
+board_follows s v a l r at moves h = led s a manager r at moves ToBoard l.manager.board refl (board_leads s v a l h) h.places.board
 
 abbrev pub manager_told : Placed → Pid → ℕ → ℕ → Placed
 manager_told l r at moves = record l { manager = retargeted_manager r at moves l.manager }
@@ -173,8 +191,8 @@ children_told s v a l r at moves none h =
     let g = h.places in
     let q = manager in
     record {
-      plain = search (managing.plain_retargeted r at moves l.manager ∙ h.plain.manager);
-      places = (search (arith, process_same, others_keep, absent, message_same, messages_keep, child_follows, answer_follows));
+      plain = search (managing.plain_retargeted r at moves l.manager ∙ h.plain.manager, retargeted_pid r at moves l.manager.board ∙ h.plain.to_board);
+      places = (search (arith, process_same, others_keep, absent, message_same, messages_keep, child_follows, answer_follows, board_follows));
     }
 
 -- the line

@@ -1,11 +1,13 @@
 -- How many addresses an update changes: as many as know fewer moves among those of its receiver.
 use Rattle.dm_places.proofs.Names.{◌≡◌, ℕ, zero, suc, ◌+◌, ◌≤◌, Bool, true, false, List, [], ◌∷◌, ◌++◌, map, cond, count_by, refl, ap, ◌∙◌, sym, arith, if◌then◌else◌, nat_le, slice_get, Option, Some, nat_tests, sum_by-cons, Pid, Link}
 use Rattle.dm_places.proofs.Names.{pid_eq, PlainLink, link_at, plain_slot, slot_is_behind, Process, manager, switchboard, Manager, OneKernel, Switchboard, named_is_behind, plain_named, Pending, pending_is_behind, plain_child, plain_pending}
-use Rattle.dm_places.proofs.Names.{pending_request, pid_eq-same, About, View, Addresses, Answer, Child, Holder, Name, Slot, place_told, ascends, answers_in, behind_among, behind_count, holders_of, holders_numbered, slot_holders, and-both}
+use Rattle.dm_places.proofs.Names.{pending_request, pid_eq-same, About, View, Addresses, Answer, Child, Holder, Name, Slot, ToBoard, place_told, ascends, answers_in, behind_among, behind_count, holders_of, holders_numbered, slot_holders, and-both}
 use Rattle.dm_places.proofs.Names.{Placed, Mirrors, AnswerNames, leads_to, link_target, option_map, plain_link, answer_is_behind}
-use Rattle.dm_places.proofs.Following.Updated.{alive_is, answer_leads, behind_led, child_leads, name_leads, slot_leads}
+use Rattle.dm_places.proofs.Following.Updated.{alive_is, answer_leads, behind_led, board_leads, child_leads, name_leads, slot_leads}
 use Rattle.dm_link.specs.Places as places
+use Rattle.dm_onekernel.specs.Kernel as one
 use Rattle.dm_onekernel.specs.Step as kernel
+use Rattle.dm_procman.specs.Managing.{behind_in}
 use Rattle.dm_rule.specs.Addresses as addresses
 
 -- holders in order of their numbers
@@ -56,7 +58,7 @@ pub updated_count : (s : OneKernel) (v : View) (a : Addresses) (l : Placed) (q r
 updated_count s v a l q r at moves about x h is no_board no_manager there =
     let f = addresses.is_behind s a q r moves in
     let holders : holders_of s q ≡ holders_numbered (Slot q) 0 (map plain_slot x.table) =
-    holders_if s q (holders_numbered Name 0 s.switchboard.names) (holders_numbered Child 1 s.manager.children ++ answers_in s.manager.pending) (slot_holders q (kernel.alive (s.processes q))) (pid_eq q switchboard) (pid_eq q manager) no_board no_manager
+    holders_if s q (holders_numbered Name 0 s.switchboard.names) (holders_numbered Child 1 s.manager.children ++ answers_in s.manager.pending ++ ToBoard ∷ []) (slot_holders q (kernel.alive (s.processes q))) (pid_eq q switchboard) (pid_eq q manager) no_board no_manager
     ∙ ap (slot_holders q) (alive_is s v a l q x h there)
     ∙ slots_numbered q 0 (map plain_slot x.table)
     in
@@ -89,14 +91,32 @@ answer_behind : (s : OneKernel) (a : Addresses) (r : Pid) (moves n : ℕ) (o : O
     → addresses.is_behind s a manager r moves (Answer n) ≡ answer_is_behind r moves o
 answer_behind s a r moves n o h1 h2 = search (arith, behind_led)
 
+board_first : (c p b : ℕ) → (c + p) + (b + 0) ≡ b + (c + p)
+board_first c p b = omega arith
+
 pub updated_manager_count : (s : OneKernel) (v : View) (a : Addresses) (l : Placed) (q r : Pid) (at moves : ℕ) (about : About) → Mirrors s v a l → about ≡ About.Place r at moves → q ≡ manager → ascends 0 s.manager.pending s.manager.sent ≡ true
-    → behind_count s a q (place_told about) ≡ count_by (places.is_behind r moves) l.manager.children + count_by (pending_is_behind r moves) l.manager.pending
+    → behind_count s a q (place_told about) ≡ behind_in r moves l.manager
 updated_manager_count s v a l q r at moves about h is to order =
     let f = addresses.is_behind s a manager r moves in
     let g = l.manager in
     let ordered : ascends 0 (map plain_pending g.pending) g.sent ≡ true = ap (λ (m : Manager). ascends 0 m.pending m.sent) h.plain.manager ∙ order in
-    let children = among_numbered f Child plain_child (places.is_behind r moves) 1 g.children
+    let children : behind_among f (holders_numbered Child 1 (map plain_child g.children)) ≡ count_by (places.is_behind r moves) g.children = among_numbered f Child plain_child (places.is_behind r moves) 1 g.children
     (λ j c there. let n : 1 + j ≡ suc j = omega arith in
     ap (λ (k : ℕ). f (Child k)) n ∙ behind_led s a manager r moves (Child (suc j)) c refl (child_leads s v a l (suc j) c h there) (h.places.child (suc j) c there))
     in
-    grind (arith, nat_tests, among_named, own_number, answer_behind, answer_leads, among_both)
+    let answers : behind_among f (answers_in (map plain_pending g.pending)) ≡ count_by (pending_is_behind r moves) g.pending =
+    among_named f (λ (y : one.Pending). Answer y.n) plain_pending (pending_is_behind r moves) g.pending
+    (λ j y there. let w = own_number g.pending 0 g.sent j y ordered there in
+    answer_behind s a r moves y.n y.answer (answer_leads s v a l y.n y h w.0) (h.places.answer y.n y w.0))
+    in
+    let board : f ToBoard ≡ places.is_behind r moves g.board = behind_led s a manager r moves ToBoard g.board refl (board_leads s v a l h) h.places.board in
+    let last : behind_among f (ToBoard ∷ []) ≡ (if places.is_behind r moves g.board then 1 else 0) + 0 = ap (λ (c : Bool). (if c then 1 else 0) + 0) board in
+    let all = among_both f (holders_numbered Child 1 (map plain_child g.children) ++ answers_in (map plain_pending g.pending)) (ToBoard ∷ []) in
+    let rest = among_both f (holders_numbered Child 1 (map plain_child g.children)) (answers_in (map plain_pending g.pending)) in
+    let counts : behind_among f (holders_numbered Child 1 (map plain_child g.children) ++ answers_in (map plain_pending g.pending)) ≡ count_by (places.is_behind r moves) g.children + count_by (pending_is_behind r moves) g.pending = rest ∙ (λ i. children i + answers i) in
+    let both : behind_among f (holders_numbered Child 1 (map plain_child g.children) ++ answers_in (map plain_pending g.pending)) + behind_among f (ToBoard ∷ []) ≡ (count_by (places.is_behind r moves) g.children + count_by (pending_is_behind r moves) g.pending) + ((if places.is_behind r moves g.board then 1 else 0) + 0) = λ i. counts i + last i in
+    (λ i. behind_count s a (to i) (place_told (is i)))
+    ∙ ap (λ (m : Manager). behind_among f (holders_numbered Child 1 m.children ++ answers_in m.pending ++ ToBoard ∷ [])) (sym h.plain.manager)
+    ∙ all
+    ∙ both
+    ∙ board_first (count_by (places.is_behind r moves) g.children) (count_by (pending_is_behind r moves) g.pending) (if places.is_behind r moves g.board then 1 else 0)

@@ -170,7 +170,11 @@ send_follows s t v a l p id is h =
 
 -- a process goes on, and nothing is sent or given
 goes_follows : (s t : OneKernel) (v : View) (a : Addresses) (l : Placed) (p : Pid) (w : Acted) (z : PlainProcess) → acts v.acting l p ≡ Some (with_acted l p w) → Goes v a p w z → kernel.goes_on s p z ≡ t → Mirrors s v a l → Follows t v a (acts v.acting l p)
-goes_follows s t v a l p w z is g f h = search (arith, mirrors_as, goes_mirrors)
+goes_follows s t v a l p w z is g f h = (
+  with_acted l p w,
+  is,
+  mirrors_as (kernel.goes_on s p (plain_process g.y)) t v a a (with_process l p (Some g.y)) (with_acted l p w) (ap (kernel.goes_on s p) g.is ∙ f) refl (ap (with_acted l p) (sym g.acted)) (goes_mirrors s v a l p g.y h g.kept),
+)
 
 -- wait
 wait_row : (s t : OneKernel) (v : View) (a : Addresses) (l : Placed) (p : Pid) (next : kernel.Trap) → ActsOf s v a l p next → kernel.waits s p next ≡ Some t → Mirrors s v a l → Follows t v a (acts v.acting l p)

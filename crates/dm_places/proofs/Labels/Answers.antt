@@ -74,7 +74,15 @@ no_room_row s t v a l id m k u is hm says h = cc
 
 pub no_space_follows : (s t : OneKernel) (v : View) (a : Addresses) (l : Placed) (id : MsgId) (f b : ℕ) → kernel.step s (Label.NoSpace id f b) ≡ Some t → Mirrors s v a l
     → Follows t v (given a (gives s v a (Label.NoSpace id f b))) (bind (l.bag id) (λ (m : Message). Some (with_sent (without_message l id) (Some (answer v.acting 0 m What.NoRoom)))))
-no_space_follows s t v a l id f b is h = search (arith, bind-is, there_of, no_room_row)
+no_space_follows s t v a l id f b is h =
+    let (k, there, rest) = bind-is (s.bag id) (λ (w : PlainMessage). service.has_no_room s id w w.what) t is in
+    let (m, found, says) = there_of s l id k h.plain there in
+    let hm = h.places.message id m found in
+    let on = with_sent (without_message l id) (Some (answer v.acting 0 m What.NoRoom)) in (
+      on,
+      ap (λ (o : Option Message). bind o (λ (n : Message). Some (with_sent (without_message l id) (Some (answer v.acting 0 n What.NoRoom))))) found,
+      no_room_row s t v a l id m k k.what rest hm says h,
+    )
 
 -- asked
 asked_row : (s t : OneKernel) (v : View) (a : Addresses) (l : Placed) (id : MsgId) (m : Message) (k : PlainMessage) (u : PlainWhat) → service.follows_request s id k u ≡ Some t → id ≡ id_of manager id.n → MirrorsMessage a id m
@@ -90,7 +98,7 @@ asked_row s t v a l id m k (PlainWhat.Move machine) is needs hm says h =
     let eq : kernels.with_note (service.without_message s id) k.to on ≡ t = cc in
     let b = λ (p : Pid). given a (gets (AskedBy p) pl ∷ []) in
     let p = m.to.pid in
-    let done = noted_mirrors (service.without_message s id) v a (b p) (without_message l id) p w (λ q. record { slot = λ i. refl; owner = refl }) (λ i. record { receiver = refl; sender = refl; enclosed = λ j. refl }) (λ n. refl) (λ n. refl) (λ n. refl)
+    let done = noted_mirrors (service.without_message s id) v a (b p) (without_message l id) p w (λ q. record { slot = λ i. refl; owner = refl }) (λ i. record { receiver = refl; sender = refl; enclosed = λ j. refl }) (λ n. refl) (λ n. refl) (λ n. refl) refl
     (λ q apart. ap (λ (c : Bool). if c then pl else a (AskedBy q)) apart) (ap (λ (c : Bool). if c then pl else a (AskedBy p)) (pid_eq-same p) ∙ hm.sender) (out_mirrors s v a l id h) in
     search (arith, mirrors_as)
 asked_row s t v a l id m k u is needs hm says h = cc

@@ -1,10 +1,10 @@
 -- What the switchboard takes, with places: each link that it keeps or hands out has the place that the lines say.
 use Rattle.dm_places.proofs.Names.{◌≡◌, ℕ, suc, ◌+◌, ◌==◌, Bool, false, List, [], ◌∷◌, ◌++◌, refl, ap, ◌∙◌, sym, subst, inl, inr, arith, if◌then◌else◌, map, slice_get, Option, None, Some, cases_Bool, length-map, Pid, Link, place_of}
 use Rattle.dm_places.proofs.Names.{PlainLink, plain_link, MsgId, Message, What, id_eq, id_of, PlainMessage, PlainWhat, plain_what, is_general, switchboard, bind, OneKernel, Switchboard, bytes_eq, is_name, Named, plain_board, plain_named}
-use Rattle.dm_places.proofs.Names.{Asked, plain_answer, plain_asks, plain_asked, plain_reply, id_eq-same, View, Addresses, given, Receiver, Sender, Enclosed, Child, Name, Answer, unmoved, place_named, board_asks, board_finds, board_keeps}
-use Rattle.dm_places.proofs.Names.{board_gets, SameProcess, SameMessage, two, two_off, get_last, Placed, Mirrors, MirrorsKernel, MirrorsMessage, enclosed, board_took, without_message, AskedBy}
+use Rattle.dm_places.proofs.Names.{Asked, plain_answer, plain_asks, plain_asked, plain_reply, id_eq-same, View, Addresses, given, Receiver, Sender, Enclosed, Child, Name, Answer, acting_place, place_named, board_asks, board_finds, board_keeps}
+use Rattle.dm_places.proofs.Names.{board_gets, SameProcess, SameMessage, two, two_off, get_last, Placed, Mirrors, MirrorsKernel, MirrorsMessage, enclosed, board_took, without_message, AskedBy, ToBoard}
 use Rattle.dm_switchboard.specs.declared.reply.Reply.{Reply}
-use Rattle.dm_places.proofs.Keeps.{answer_as, came_places, kernel_out, kernel_sent, out_mirrors, places_out, process_same}
+use Rattle.dm_places.proofs.Keeps.{answer_as, board_place, came_places, kernel_out, kernel_sent, out_mirrors, places_out, process_same}
 use Rattle.dm_places.proofs.Labels.Acts.{Follows}
 use Rattle.dm_places.proofs.Whats.{user_what}
 use Rattle.dm_onekernel.specs.Service as service
@@ -20,6 +20,7 @@ record AskedKept (a b : Addresses) (sent : MsgId) (k : Asked) : Type 0 where
   child : (n : ℕ) → b (Child n) ≡ a (Child n)
   answer : (n : ℕ) → b (Answer n) ≡ a (Answer n)
   asked : (q : Pid) → b (AskedBy q) ≡ a (AskedBy q)
+  board : b ToBoard ≡ a ToBoard
 
 abbrev NamesKept : Addresses → List Named → Type 0
 NamesKept a names = (n : ℕ) (w : Named) → slice_get names n ≡ Some w → a (Name n) ≡ place_of w.link.addr
@@ -75,6 +76,7 @@ registers_kept a id sent names op name l None at h = record {
   child = λ n. refl;
   answer = λ n. refl;
   asked = λ q. refl;
+  board = refl;
 }
 
 to_register : (a : Addresses) (id sent : MsgId) (names : List Named) (op : ℕ) (name : List ℕ) (ls : List Link) → ((n : ℕ) (w : Link) → slice_get ls n ≡ Some w → a (Enclosed id (suc n)) ≡ place_of w.addr) → NamesKept a names
@@ -99,7 +101,7 @@ asks_kept a id sent names (op ∷ name) ls en h = search (arith, asks_if, to_reg
 abbrev BoardAt : OneKernel → View → Addresses → Placed → MsgId → List ℕ → Link → List Link → Switchboard → one.Asked → Type 0
 BoardAt s v a l id body w ws b k =
     Mirrors (service.switchboard_took s id (one.board_answers b (plain_link w) k)) v (given a (board_asks v a id (id_of switchboard b.sent) b.names body k))
-    (board_took (without_message l id) (board.answers v.acting l.board.sent w (board.asks l.board.names body ws)))
+    (board_took (without_message l id) (board.answers v.acting l.board w (board.asks l.board.names body ws)))
 
 request_mirrors : (s : OneKernel) (v : View) (a : Addresses) (l : Placed) (id : MsgId) (body : List ℕ) (w : Link) (ws : List Link) → ((n : ℕ) (u : Link) → slice_get (w ∷ ws) n ≡ Some u → a (Enclosed id n) ≡ place_of u.addr) → Mirrors s v a l
     → BoardAt s v a l id body w ws (plain_board l.board) (plain_asked (board.asks l.board.names body ws))
@@ -111,28 +113,31 @@ request_mirrors s v a l id body w ws en h =
     let k = asks_kept a id sent names body ws (λ i u e. en (suc i) u e) h.places.name in
     let b = given a (board_finds a sent (map plain_named names) body (plain_reply asked.reply) ++ board_keeps a id (map plain_named names) (plain_reply asked.reply)) in
     let to = a (Enclosed id 0) in
-    let from = unmoved v.acting in
-    let m = board.answer_over v.acting n w asked.reply in
+    let from = acting_place v switchboard in
+    let m = board.answer_over v.acting l.board.moves n w asked.reply in
     let q = one.goes_over switchboard n (plain_link w) (((one.answer_row (plain_reply asked.reply)).0) ∷ []) ((one.answer_row (plain_reply asked.reply)).1) in
     let u = kernel_out s l id h.plain in
     let g = places_out v a l id h.places in
     let s' = record (service.without_message s id) { switchboard = record { names = map plain_named asked.names; sent = n + 1 } } in
-    let l' = record (without_message l id) { board = record { names = asked.names; sent = n + 1 } } in
-    let plain : MirrorsKernel s' l' = record { processes = u.processes; bag = u.bag; notes = u.notes; noted = u.noted; board = refl; manager = u.manager; machines = u.machines; images = u.images } in
+    let l' = record (without_message l id) { board = record { names = asked.names; sent = n + 1; moves = l.board.moves } } in
+    let plain : MirrorsKernel s' l' = record { processes = u.processes; bag = u.bag; notes = u.notes; noted = u.noted; board = refl; manager = u.manager; machines = u.machines; images = u.images; to_board = u.to_board } in
     record {
-      plain = kernel_sent s' l' q m (plain_answer v.acting n w asked.reply) plain;
+      plain = kernel_sent s' l' q m (plain_answer v.acting l.board.moves n w asked.reply) plain;
       places = record {
         process = λ p x e. process_same v a (given b (two sent to from)) p x (let z = k.process p in record { slot = z.slot; owner = z.owner }) (h.places.process p x e);
         message = came_places a (given b (two sent to from)) l' m g.message
             (λ i e. let z = k.message i e in let y = two_off b sent to from i e in record { receiver = y.receiver ∙ z.receiver; sender = y.sender ∙ z.sender; enclosed = z.enclosed })
             (search (
               ap (λ (c : Bool). if c then to else b (Receiver sent)) (id_eq-same sent) ∙ en 0 w refl,
-              ap (λ (c : Bool). if c then from else b (Sender sent)) (id_eq-same sent),
+              ap (λ (c : Bool). if c then from else b (Sender sent)) (id_eq-same sent) ∙ board_place s v a l h,
             ));
         name = k.name;
         child = λ j c e. k.child j ∙ h.places.child j c e;
         answer = λ j r e. answer_as r.answer (k.answer j) (h.places.answer j r e);
         asker = λ q w e. k.asked q ∙ h.places.asker q w e;
+        board = k.board ∙ h.places.board;
+        board_moves = h.places.board_moves;
+        manager_moves = h.places.manager_moves;
       };
     }
 

@@ -127,7 +127,7 @@ user_sent v a p x w over some h k e =
       };
       others = λ q g. let s = encloses_process a id 0 ps q in record { slot = s.slot; owner = s.owner };
       messages = λ i g. let s = encloses_message a id 0 ps i g in (search (arith));
-      servers = let s = encloses_servers a id 0 ps in record { child = s.child; name = s.name; answer = s.answer; asked = s.asked };
+      servers = let s = encloses_servers a id 0 ps in record { child = s.child; name = s.name; answer = s.answer; asked = s.asked; board = s.board };
     })
 
 sends_by : (v : View) (a : Addresses) (p : Pid) (x : Process) (w : Link) (b c d e : Bool) → d ≡ one.any_empty (map plain_slot x.table) (calls.listed x) → link_at x.table (reg x.regs 1) ≡ Some w → MirrorsProcess v a p x

@@ -1,14 +1,14 @@
 -- What the process manager takes, with places: it tells kernels and children, and answers over links, where the lines say.
 use Rattle.dm_places.proofs.Names.{◌≡◌, ℕ, suc, ◌+◌, ◌==◌, ◌&&◌, Bool, true, false, List, [], ◌∷◌, length, refl, ap, ◌∙◌, subst, inl, inr, nat_lt, arith, if◌then◌else◌, map, option_map, slice_get, Option, None, Some, nat_tests}
 use Rattle.dm_places.proofs.Names.{slice_get-map, Addr, Link, place_of, plain_link, MsgId, What, id_of, PlainMessage, PlainWhat, plain_message, manager, OneKernel, goes_over, Pending, Managing, plain_child, plain_manager, plain_pending}
-use Rattle.dm_places.proofs.Names.{answer_over, message_to, Taken, child_address, plain_numbered, plain_push, id_eq-same, View, Addresses, gets, given, Receiver, Sender, Enclosed, Child, Answer, unmoved, encloses, enclosed_from}
+use Rattle.dm_places.proofs.Names.{answer_over, message_to, Taken, child_address, plain_numbered, plain_push, id_eq-same, View, Addresses, gets, given, Receiver, Sender, Enclosed, Child, Answer, acting_place, unmoved, encloses, enclosed_from}
 use Rattle.dm_places.proofs.Names.{manager_sends, ascends, encloses_servers, encloses_process, encloses_message, encloses_at, two, enclosed_at, Placed, Mirrors, MirrorsKernel, enclosed, manager_took, without_message, AnswerNames, Place}
 use Rattle.dm_places.proofs.Names.{PlainLink, pending_request, ◌++◌, kernel_at, PendingKind, sym, Pid, option_map_or}
 use Rattle.dm_onekernel.specs.Kernel as kernels
 use Rattle.dm_onekernel.specs.Manager as one
 use Rattle.dm_onekernel.specs.Service as service
 use Rattle.dm_procman.specs.Taking as take
-use Rattle.dm_places.proofs.Keeps.{answer_as, came_places, kernel_out, kernel_sent, message_same, places_out, process_same}
+use Rattle.dm_places.proofs.Keeps.{answer_as, came_places, kernel_out, kernel_sent, manager_place, message_same, places_out, process_same}
 use Rattle.dm_places.proofs.Labels.Answers.{two_sends}
 use Rattle.dm_places.proofs.Pendings.{numbered_below, pending_last}
 
@@ -37,7 +37,7 @@ bad_mirrors s v a l id mid code [] en h = let u = kernel_out s l id h.plain in l
 bad_mirrors s v a l id mid code (w ∷ ws) en h =
     let n = l.manager.sent in
     two_sends (record (service.without_message s id) { manager = record (plain_manager l.manager) { sent = n + 1 } }) v a (record (without_message l id) { manager = record l.manager { sent = n + 1 } })
-    (answer_over v.acting n w 2 []) (goes_over manager n (plain_link w) (2 ∷ []) []) (a (Enclosed mid 0)) (unmoved v.acting) refl refl (en 0 w refl) refl (counted s v a l id h)
+    (answer_over v.acting l.manager.moves n w 2 []) (goes_over manager n (plain_link w) (2 ∷ []) []) (a (Enclosed mid 0)) (acting_place v manager) refl refl (en 0 w refl) (manager_place s v a l h) (counted s v a l id h)
 
 -- the first link of a message, which is kept with a request
 first_names : (a : Addresses) (mid : MsgId) (links : List Link) → LinksKept a mid links → AnswerNames (take.first_link links) (a (Enclosed mid 0))
@@ -67,14 +67,14 @@ asks_for_mirrors s v a l id mid code machine image w ws en order h =
     let ls = map plain_link ws in
     let ps = enclosed_from a mid 1 ls in
     let to = unmoved machine in
-    let from = unmoved v.acting in
+    let from = acting_place v manager in
     let pl = a (Enclosed mid 0) in
     let c = given a (encloses sent 0 ps) in
     let b = given c (gets (Receiver sent) to ∷ gets (Sender sent) from ∷ gets (Answer n) pl ∷ []) in
     let r : Pending = record { n = n; kind = PendingKind.Create; answer = Some w } in
     let k = one.asks_for (plain_manager g) machine image (plain_link w) ls in
     let t = take.asks_for v.acting g machine image w ws in
-    let m = message_to v.acting n (kernel_at machine) (What.Create image (record { items = ws })) in
+    let m = message_to v.acting g.moves n (kernel_at machine) (What.Create image (record { items = ws })) in
     let q : PlainMessage = record { id = sent; to = m.to.pid; sender = manager; what = PlainWhat.Create image ls } in
     let u = kernel_out s l id h.plain in
     let o = places_out v a l id h.places in
@@ -92,7 +92,7 @@ asks_for_mirrors s v a l id mid code machine image w ws en order h =
             (record {
               id = refl;
               receiver = ap (λ (d : Bool). if d then to else c (Receiver sent)) (id_eq-same sent);
-              sender = ap (λ (d : Bool). if d then from else c (Sender sent)) (id_eq-same sent);
+              sender = ap (λ (d : Bool). if d then from else c (Sender sent)) (id_eq-same sent) ∙ manager_place s v a l h;
               enclosed = λ j x e. encloses_at a sent 0 ps j j (a (Enclosed mid (1 + j))) (enclosed_at a mid 1 ls j (plain_link x) (slice_get-map plain_link ws j ∙ ap (option_map plain_link) e)) (omega arith)
                   ∙ (let f : 1 + j ≡ suc j = omega arith in ap (λ (i : ℕ). a (Enclosed mid i)) f) ∙ en (suc j) x e;
             });
@@ -100,6 +100,9 @@ asks_for_mirrors s v a l id mid code machine image w ws en order h =
         child = λ j x e. servers.child j ∙ h.places.child j x e;
         answer = asked_names a c g r pl servers.answer refl (en 0 w refl) order h.places.answer;
         asker = λ q k e. servers.asked q ∙ h.places.asker q k e;
+        board = servers.board ∙ h.places.board;
+        board_moves = h.places.board_moves;
+        manager_moves = h.places.manager_moves;
       };
     }
 
@@ -118,13 +121,13 @@ requests_mirrors s v a l id mid code _ links en order h = bad_mirrors s v a l id
 
 -- a message to a child
 tells_mirrors : (s : OneKernel) (v : View) (a : Addresses) (l : Placed) (id : MsgId) (code : ℕ) (child : Addr) (w : What) (u : PlainWhat)
-    → plain_message (message_to v.acting l.manager.sent child w) ≡ Some (record { id = id_of manager l.manager.sent; to = child.pid; sender = manager; what = u })
+    → plain_message (message_to v.acting l.manager.moves l.manager.sent child w) ≡ Some (record { id = id_of manager l.manager.sent; to = child.pid; sender = manager; what = u })
     → enclosed w ≡ [] → a (Child code) ≡ place_of child → Mirrors s v a l
-    → Mirrors (service.manager_took s id (one.tells (plain_manager l.manager) child.pid u)) v (given a (two (id_of manager l.manager.sent) (a (Child code)) (unmoved v.acting))) (manager_took (without_message l id) (take.sends l.manager (message_to v.acting l.manager.sent child w)))
+    → Mirrors (service.manager_took s id (one.tells (plain_manager l.manager) child.pid u)) v (given a (two (id_of manager l.manager.sent) (a (Child code)) (acting_place v manager))) (manager_took (without_message l id) (take.sends l.manager (message_to v.acting l.manager.moves l.manager.sent child w)))
 tells_mirrors s v a l id code child w u says none to h =
     let n = l.manager.sent in
     two_sends (record (service.without_message s id) { manager = record (plain_manager l.manager) { sent = n + 1 } }) v a (record (without_message l id) { manager = record l.manager { sent = n + 1 } })
-    (message_to v.acting n child w) (record { id = id_of manager n; to = child.pid; sender = manager; what = u }) (a (Child code)) (unmoved v.acting) says none to refl (counted s v a l id h)
+    (message_to v.acting l.manager.moves n child w) (record { id = id_of manager n; to = child.pid; sender = manager; what = u }) (a (Child code)) (acting_place v manager) says none to (manager_place s v a l h) (counted s v a l id h)
 
 control_by : (s : OneKernel) (v : View) (a : Addresses) (l : Placed) (id mid : MsgId) (code : ℕ) (child : Addr) (b c d : Bool) (links : List Link) → a (Child code) ≡ place_of child → LinksKept a mid links → Mirrors s v a l
     → TookAt s v a l id mid code
@@ -148,7 +151,7 @@ moves_mirrors s v a l id mid code child machine links to en order h =
     let r : Pending = record { n = n; kind = PendingKind.Move; answer = take.first_link links } in
     let k = one.sends_request (plain_manager g) PendingKind.Move child.pid (PlainWhat.Move machine) (slice_get (map plain_link links) 0) in
     let t = take.asks v.acting g PendingKind.Move child (What.Move machine) (take.first_link links) in
-    let m = message_to v.acting n child (What.Move machine) in
+    let m = message_to v.acting g.moves n child (What.Move machine) in
     let q : PlainMessage = record { id = sent; to = child.pid; sender = manager; what = PlainWhat.Move machine } in
     let u = kernel_out s l id h.plain in
     let o = places_out v a l id h.places in
@@ -159,7 +162,7 @@ moves_mirrors s v a l id mid code child machine links to en order h =
     (plain_push g.pending r ∙ ap (λ (w : Option PlainLink). map plain_pending g.pending ++ record { n = n; kind = PendingKind.Move; answer = w } ∷ []) (first_plainly links))
     in
     let done : Mirrors s' v b l' = record {
-      plain = record { processes = u.processes; bag = u.bag; notes = u.notes; noted = u.noted; board = u.board; manager = kept; machines = u.machines; images = u.images };
+      plain = record { processes = u.processes; bag = u.bag; notes = u.notes; noted = u.noted; board = u.board; manager = kept; machines = u.machines; images = u.images; to_board = u.to_board };
       places = record {
         process = λ p x e. process_same v a b p x (record { slot = λ i. refl; owner = refl }) (o.process p x e);
         message = λ i x e. message_same a b i x (record { receiver = refl; sender = refl; enclosed = λ j. refl }) (o.message i x e);
@@ -167,9 +170,12 @@ moves_mirrors s v a l id mid code child machine links to en order h =
         child = o.child;
         answer = asked_names a a g r pl (λ j. refl) refl (first_names a mid links en) order h.places.answer;
         asker = o.asker;
+        board = o.board;
+        board_moves = o.board_moves;
+        manager_moves = o.manager_moves;
       };
     } in
-    let w = two_sends s' v b l' m q (a (Child code)) (unmoved v.acting) refl refl to refl done in
+    let w = two_sends s' v b l' m q (a (Child code)) (acting_place v manager) refl refl to (manager_place s v a l h) done in
     let z = w.places in
     record {
       plain = w.plain;
@@ -180,6 +186,9 @@ moves_mirrors s v a l id mid code child machine links to en order h =
         child = z.child;
         answer = z.answer;
         asker = z.asker;
+        board = z.board;
+        board_moves = z.board_moves;
+        manager_moves = z.manager_moves;
       };
     }
 

@@ -2,9 +2,9 @@
 use Rattle.dm_places.proofs.Names.{◌≡◌, ℕ, ◌+◌, Bool, true, false, List, [], ◌∷◌, ◌++◌, length, refl, ap, ◌∙◌, sym, subst, arith, if◌then◌else◌, map, option_map, slice_get, Option, None, Some, nat_tests, length-map, Pid, Addr, Link, Place}
 use Rattle.dm_places.proofs.Names.{pid_eq, place_of, PlainLink, plain_link, MsgId, Message, What, id_of, Label, PlainMessage, PlainWhat, plain_message, plain_what, manager, switchboard, bind, Manager, OneKernel, goes_over, Pending}
 use Rattle.dm_places.proofs.Names.{Managing, at_home, plain_child, plain_manager, plain_pending, answer_over, control_link, Taken, child_address, pending_request, plain_bear, plain_pending_numbered, plain_without, id_eq-same, bind-is, View}
-use Rattle.dm_places.proofs.Names.{Addresses, Gets, gets, given, gives, Receiver, Sender, Enclosed, Child, Name, Answer, unmoved, board_gets, manager_answers, manager_sends, manager_gets, SameProcess, SameMessage, Placed, Mirrors}
-use Rattle.dm_places.proofs.Names.{MirrorsKernel, MirrorsMessage, enclosed, board_took, manager_took, without_message, AnswerNames, AskedBy, Outcome, code_of_outcome}
-use Rattle.dm_places.proofs.Keeps.{answer_as, came_places, kernel_out, kernel_sent, message_same, parts, places_out, process_same, there_of}
+use Rattle.dm_places.proofs.Names.{Addresses, Gets, gets, given, gives, Receiver, Sender, Enclosed, Child, Name, Answer, acting_place, unmoved, board_gets, manager_answers, manager_sends, manager_gets, SameProcess, SameMessage, Placed, Mirrors}
+use Rattle.dm_places.proofs.Names.{MirrorsKernel, MirrorsMessage, enclosed, board_took, manager_took, without_message, AnswerNames, AskedBy, ToBoard, Outcome, code_of_outcome}
+use Rattle.dm_places.proofs.Keeps.{answer_as, came_places, kernel_out, kernel_sent, manager_place, message_same, parts, place_after, places_out, process_same, there_of}
 use Rattle.dm_places.proofs.Labels.Acts.{Follows}
 use Rattle.dm_places.proofs.Labels.Boards.{board_row}
 use Rattle.dm_places.proofs.Pendings.{child_last, still_pending}
@@ -30,17 +30,17 @@ one_link place w h1 k u h2 = search arith
 -- the manager goes on as g, and answers over the link of a request: c is a with what a new child gives
 answers_mirrors : (s : OneKernel) (v : View) (a c : Addresses) (l : Placed) (id : MsgId) (n : ℕ) (r : Pending) (g : Managing) (k : Manager) (byte : ℕ) (ws : List Link) (over : Option Link) → r.answer ≡ over
     → pending_request n l.manager.pending ≡ Some r → InOrder l.manager → Mirrors s v a l
-    → ((j : ℕ) (w : Link) → slice_get ws j ≡ Some w → (j ≡ 0) × (unmoved v.acting ≡ place_of w.addr)) → plain_manager g ≡ k → g.pending ≡ take.without_pending n l.manager.pending → g.machines ≡ l.manager.machines → g.images ≡ l.manager.images
-    → ((q : Pid) → SameProcess a c q) → ((i : MsgId) → SameMessage a c i) → ((j : ℕ) → c (Name j) ≡ a (Name j)) → ((j : ℕ) → c (Answer j) ≡ a (Answer j)) → ((q : Pid) → c (AskedBy q) ≡ a (AskedBy q))
+    → ((j : ℕ) (w : Link) → slice_get ws j ≡ Some w → (j ≡ 0) × (acting_place v manager ≡ place_of w.addr)) → plain_manager g ≡ k → g.board ≡ l.manager.board → g.moves ≡ l.manager.moves → g.pending ≡ take.without_pending n l.manager.pending → g.machines ≡ l.manager.machines → g.images ≡ l.manager.images
+    → ((q : Pid) → SameProcess a c q) → ((i : MsgId) → SameMessage a c i) → ((j : ℕ) → c (Name j) ≡ a (Name j)) → ((j : ℕ) → c (Answer j) ≡ a (Answer j)) → ((q : Pid) → c (AskedBy q) ≡ a (AskedBy q)) → c ToBoard ≡ a ToBoard
     → ((j : ℕ) (w : Addr) → child_address g.children j ≡ Some w → c (Child j) ≡ place_of w)
     → Mirrors (service.manager_took s id (one.answers_over k (option_map plain_link over) byte (map plain_link ws))) v
     (given c (manager_answers v a n (one.answers_over k (option_map plain_link over) byte (map plain_link ws)).message))
     (manager_took (without_message l id) (take.answers_over v.acting g over byte ws))
-answers_mirrors s v a c l id n r g k byte ws None is there order h one_is plain_is pending machines images process message name answer asked child =
+answers_mirrors s v a c l id n r g k byte ws None is there order h one_is plain_is known moves pending machines images process message name answer asked to_board child =
     let u = kernel_out s l id h.plain in
     let o = places_out v a l id h.places in
     record {
-      plain = record { processes = u.processes; bag = u.bag; notes = u.notes; noted = u.noted; board = u.board; manager = plain_is; machines = machines ∙ u.machines; images = images ∙ u.images };
+      plain = record { processes = u.processes; bag = u.bag; notes = u.notes; noted = u.noted; board = u.board; manager = plain_is; machines = machines ∙ u.machines; images = images ∙ u.images; to_board = ap (λ (o : Addr). o.pid) known ∙ u.to_board };
       places = record {
         process = λ p x e. process_same v a c p x (process p) (o.process p x e);
         message = λ i x e. message_same a c i x (message i) (o.message i x e);
@@ -48,20 +48,23 @@ answers_mirrors s v a c l id n r g k byte ws None is there order h one_is plain_
         child = child;
         answer = λ j w e. answer_as w.answer (answer j) (h.places.answer j w (still_pending l.manager.pending 0 l.manager.sent n j w order (ap (pending_request j) (sym pending) ∙ e)));
         asker = λ q w e. asked q ∙ h.places.asker q w e;
+        board = to_board ∙ h.places.board ∙ ap place_of (sym known);
+        board_moves = h.places.board_moves;
+        manager_moves = moves ∙ h.places.manager_moves;
       };
     }
-answers_mirrors s v a c l id n r g k byte ws (Some over) is there order h one_is plain_is pending machines images process message name answer asked child =
+answers_mirrors s v a c l id n r g k byte ws (Some over) is there order h one_is plain_is known moves pending machines images process message name answer asked to_board child =
     let sent = id_of manager g.sent in
-    let from = unmoved v.acting in
+    let from = acting_place v manager in
     let to = a (Answer n) in
     let b = given c (gets (Receiver sent) to ∷ gets (Sender sent) from ∷ gets (Enclosed sent 0) from ∷ []) in
-    let m = answer_over v.acting g.sent over byte ws in
+    let m = answer_over v.acting g.moves g.sent over byte ws in
     let q = goes_over manager g.sent (plain_link over) (byte ∷ []) (map plain_link ws) in
     let u = kernel_out s l id h.plain in
     let o = places_out v a l id h.places in
     let s' = record (service.without_message s id) { manager = record (plain_manager g) { sent = g.sent + 1 } } in
     let l' = record (without_message l id) { manager = record g { sent = g.sent + 1 } } in
-    let plain : MirrorsKernel s' l' = record { processes = u.processes; bag = u.bag; notes = u.notes; noted = u.noted; board = u.board; manager = refl; machines = machines ∙ u.machines; images = images ∙ u.images } in
+    let plain : MirrorsKernel s' l' = record { processes = u.processes; bag = u.bag; notes = u.notes; noted = u.noted; board = u.board; manager = refl; machines = machines ∙ u.machines; images = images ∙ u.images; to_board = ap (λ (o : Addr). o.pid) known ∙ u.to_board } in
     subst (λ (z : Manager). Mirrors (service.manager_took s id (one.answers_over z (Some (plain_link over)) byte (map plain_link ws))) v (given c (manager_answers v a n (one.answers_over z (Some (plain_link over)) byte (map plain_link ws)).message)) (manager_took (without_message l id) (take.answers v.acting g over byte ws))) plain_is
     (record {
       plain = kernel_sent s' l' q m refl plain;
@@ -71,13 +74,16 @@ answers_mirrors s v a c l id n r g k byte ws (Some over) is there order h one_is
             (λ i e. let w = message i in (search (arith)))
             (search (
               ap (λ (d : Bool). if d then to else c (Receiver sent)) (id_eq-same sent) ∙ subst (λ (w : Option Link). AnswerNames w to) is (h.places.answer n r there),
-              ap (λ (d : Bool). if d then from else c (Sender sent)) (id_eq-same sent),
+              ap (λ (d : Bool). if d then from else c (Sender sent)) (id_eq-same sent) ∙ manager_place s v a l h ∙ ap (place_after v.acting) (sym moves),
               enclosed_one c sent from ws one_is,
             ));
         name = λ j w e. name j ∙ h.places.name j w e;
         child = child;
         answer = λ j w e. answer_as w.answer (answer j) (h.places.answer j w (still_pending l.manager.pending 0 l.manager.sent n j w order (ap (pending_request j) (sym pending) ∙ e)));
         asker = λ q w e. asked q ∙ h.places.asker q w e;
+        board = to_board ∙ h.places.board ∙ ap place_of (sym known);
+        board_moves = h.places.board_moves;
+        manager_moves = moves ∙ h.places.manager_moves;
       };
     })
 
@@ -105,7 +111,7 @@ created_by : (s : OneKernel) (v : View) (a : Addresses) (l : Placed) (id : MsgId
 created_by s v a l id n child None k is e order h = cc
 created_by s v a l id n child (Some r) k is e order h =
     let cs = l.manager.children in
-    let w = control_link v.acting (length cs + 1) in
+    let w = control_link v.acting l.manager.moves (length cs + 1) in
     let g : Managing = record (take.settled l.manager n) { children = cs ++ at_home child ∷ [] } in
     let after : Manager = record s.manager { children = s.manager.children ++ child ∷ []; pending = one.without_pending n s.manager.pending } in
     let plain_is : plain_manager g ≡ after =
@@ -122,8 +128,8 @@ created_by s v a l id n child (Some r) k is e order h =
     λ i u there. ap (λ (z : ℕ). given a (gets (Child (z + 1)) pl ∷ []) (Child i)) (sym longer) ∙ child_last cs child i u a h.places.child there
     in
     let t = take.answers_over v.acting g r.answer 0 (w ∷ []) in
-    let u = answers_mirrors s v a c l id n r g after 0 (w ∷ []) r.answer refl is order h (one_link (unmoved v.acting) w refl) plain_is refl refl refl
-    (λ q. record { slot = λ i. refl; owner = refl }) (λ i. record { receiver = refl; sender = refl; enclosed = λ i. refl }) (λ i. refl) (λ i. refl) (λ q. refl) children in
+    let u = answers_mirrors s v a c l id n r g after 0 (w ∷ []) r.answer refl is order h (one_link (acting_place v manager) w (manager_place s v a l h)) plain_is refl refl refl refl refl
+    (λ q. record { slot = λ i. refl; owner = refl }) (λ i. record { receiver = refl; sender = refl; enclosed = λ i. refl }) (λ i. refl) (λ i. refl) (λ q. refl) refl children in
     let told = λ (z : ℕ). one.answers_over after (option_map plain_link r.answer) 0 (one.control_link (z + 1) ∷ []) in
     let on = manager_took (without_message l id) t in
     search
@@ -142,8 +148,8 @@ ended_by s v a l id n byte r k is f order h =
     ∙ ap (λ (z : Manager). record z { pending = one.without_pending n z.pending }) h.plain.manager
     in
     let t = take.answers_over v.acting g r.answer byte [] in
-    let u = answers_mirrors s v a a l id n r g after byte [] r.answer refl is order h (λ i x there. absurd (let z : None ≡ Some x = there in cc)) plain_is refl refl refl
-    (λ q. record { slot = λ i. refl; owner = refl }) (λ i. record { receiver = refl; sender = refl; enclosed = λ i. refl }) (λ i. refl) (λ i. refl) (λ q. refl) h.places.child in
+    let u = answers_mirrors s v a a l id n r g after byte [] r.answer refl is order h (λ i x there. absurd (let z : None ≡ Some x = there in cc)) plain_is refl refl refl refl refl
+    (λ q. record { slot = λ i. refl; owner = refl }) (λ i. record { receiver = refl; sender = refl; enclosed = λ i. refl }) (λ i. refl) (λ i. refl) (λ q. refl) refl h.places.child in
     record { t = t; takes = refl; mirrors = subst (λ (z : one.ManagerTook). Mirrors (service.manager_took s id z) v (given a (manager_answers v a n z.message)) (manager_took (without_message l id) t)) f u }
 
 no_room_by : (s : OneKernel) (v : View) (a : Addresses) (l : Placed) (id : MsgId) (n : ℕ) (p : Option Pending) (k : one.ManagerTook) → pending_request n l.manager.pending ≡ p

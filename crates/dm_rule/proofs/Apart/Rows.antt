@@ -1,10 +1,11 @@
 -- The labels of a group: what is another process's.
-use Rattle.dm_rule.proofs.Names.{◌≡◌, ◌≢◌, ℕ, ◌+◌, List, [], ◌∷◌, refl, ⊤, Option, None, Some, Pid, pid_of, MsgId, plain_kind, PlainMessage, Boot, first_number, ends_with, OneKernel, Here, Point, label_of, Part, Says, Spares}
+use Rattle.dm_rule.proofs.Names.{◌≡◌, ◌≢◌, ℕ, ◌+◌, List, [], ◌∷◌, refl, ⊤, Option, None, Some, Pid, pid_of, MsgId, plain_kind, PlainMessage, Boot, first_number, ends_with, OneKernel, Here, Point, label_of, Part, Says}
+use Rattle.dm_rule.proofs.Apart.Steps.{Avoids}
 use Rattle.dm_rule.specs.Rule as rule
 use Rattle.dm_rule.proofs.Serving.{by_round, by_handles, by_forwards, ends_kept}
 
 abbrev pub SparesPart : OneKernel → Pid → Part → Type 0
-SparesPart z y (Says l) = Spares z y (label_of l)
+SparesPart z y (Says l) = Avoids z y (label_of l)
 SparesPart z y _ = ⊤
 
 abbrev pub AllApart : Pid → List Part → Type 0
@@ -56,7 +57,7 @@ pub handles_apart : (z : OneKernel) (y : Pid) (b : Boot) (o : Point) (m : ℕ) (
 handles_apart z y b o m id msg child off = apart_of z y (rule.handles b o m id msg) (λ ps. by_handles (FirstApart z y) b o m id msg ps (record {
   created = λ fixed. (child, (λ s. tt, tt));
   no_space = λ fixed slots blocks. (tt, (λ s. tt, tt));
-  took = λ fixed sent. (tt, elim sent as (λ o. AllApart y (rule.routes o)) [ None ↦ tt | Some m ↦ (λ s. tt, tt) ]);
+  took = λ to sent. (off to.known, elim sent as (λ o. AllApart y (rule.routes o)) [ None ↦ tt | Some m ↦ (λ s. tt, tt) ]);
   queued = λ to user. (tt, tt);
   served = λ to mild. (off to.known, tt);
   answers = λ to mild i. (off to.known, (λ s. tt, tt));

@@ -1,12 +1,13 @@
 -- A step that is not of a process leaves its plain value.
 use Rattle.dm_rule.proofs.Names.{◌≡◌, ◌≢◌, ◌+◌, ◌==◌, ◌&&◌, Bool, true, false, List, refl, ap, ⊤, if◌then◌else◌, slice_get, Option, None, Some, Pid, pid_of, pid_eq, PlainLink, MsgId, id_eq, Called, PlainMessage, PlainWhat, BootImage, Label}
-use Rattle.dm_rule.proofs.Names.{first_number, reply_eq, bind, when, PlainProcess, Life, Alive, OneKernel, with_process, with_sent, answer_to, without_message, begun, IsOthers, pid_eq-is, Outcome, arith, false_from_ne_true}
+use Rattle.dm_rule.proofs.Names.{first_number, reply_eq, bind, when, PlainProcess, Life, Alive, OneKernel, with_process, with_sent, answer_to, without_message, begun, IsOthers, pid_eq-is, Outcome, arith, false_from_ne_true, ◌∙◌, sym, subst, switchboard, manager, Spares, kernel_after}
 use Rattle.dm_onekernel.specs.Pieces as pieces
 use Rattle.dm_onekernel.specs.Receiving as receiving
 use Rattle.dm_onekernel.specs.Service as service
 use Rattle.dm_onekernel.specs.Switchboard as board
 use Rattle.dm_onekernel.specs.Step as kernel
 use Rattle.dm_rule.proofs.Requests.{by_test}
+use Rattle.dm_rule.proofs.Changes.{by_step}
 
 -- the next kernel, where there is one, has the process as it was
 abbrev pub Keeps : OneKernel → Pid → Option OneKernel → Type 0
@@ -89,3 +90,66 @@ keeps_step s p (Label.Asked id) off =
 keeps_step s p (Label.Answered id o) off =
     keeps_bind s p (s.noted id) (λ q. bind (s.notes q) (λ n. service.ends_move s id q n o)) (λ q noted. keeps_bind s p (s.notes q) (λ n. service.ends_move s id q n o) (λ n notes.
     (elim o as (λ o_. Keeps s p (service.ends_move s id q n o_)) [ Outcome.Ended ↦ tt | _ ↦ refl ])))
+
+-- nor does a server that it is take a message
+abbrev pub IsAnothers : OneKernel → Pid → Label → Type 0
+IsAnothers s p (Label.Took id) = (m : PlainMessage) → s.bag id ≡ Some m → m.to ≢ p
+IsAnothers s p l = IsOthers s p l
+
+abbrev pub Avoids : OneKernel → Pid → Option Label → Type 0
+Avoids s p None = ⊤
+Avoids s p (Some l) = IsAnothers s p l
+
+others_of : (s : OneKernel) (p : Pid) (l : Label) → IsAnothers s p l → IsOthers s p l
+others_of s p (Label.Took id) h = h
+others_of s p _ h = h
+
+pub spares_of : (s : OneKernel) (p : Pid) (o : Option Label) → Avoids s p o → Spares s p o
+spares_of s p None h = tt
+spares_of s p (Some l) h = others_of s p l h
+
+-- so it stays
+abbrev pub ServerStays : Pid → OneKernel → OneKernel → Type 0
+ServerStays y s t = (pid_eq y switchboard ≡ true → t.switchboard ≡ s.switchboard) × (pid_eq y manager ≡ true → t.manager ≡ s.manager)
+
+pub stays_same : (y : Pid) (s : OneKernel) → ServerStays y s s
+stays_same y s = (λ b. refl, λ g. refl)
+
+pub stays_on : (y : Pid) (s t u : OneKernel) → ServerStays y s t → ServerStays y t u → ServerStays y s u
+stays_on y s t u h k = (λ b. k.0 b ∙ h.0 b, λ g. k.1 g ∙ h.1 g)
+
+sent_servers : (s : OneKernel) (o : Option PlainMessage) → ((with_sent s o).switchboard ≡ s.switchboard) × ((with_sent s o).manager ≡ s.manager)
+sent_servers s None = (refl, refl)
+sent_servers s (Some m) = (refl, refl)
+
+server_stays : (s t : OneKernel) (l : Label) (y : Pid) → IsAnothers s y l → kernel.step s l ≡ Some t → ServerStays y s t
+server_stays s t l y others =
+    let off : (id : MsgId) → l ≡ Label.Took id → (m : PlainMessage) → s.bag id ≡ Some m → m.to ≢ y = λ id e. subst (λ (x : Label). IsAnothers s y x) e others in
+    by_step (ServerStays y s) s t l (record {
+      ran = λ p k x m e r. (λ b. refl, λ g. refl);
+      replies = λ p n k c d x e w. (λ b. refl, λ g. refl);
+      sends = λ p id k m x e f w. (λ b. refl, λ g. refl);
+      waits = λ p k x e w. (λ b. refl, λ g. refl);
+      outputs = λ p word k v x e w. (λ b. refl, λ g. refl);
+      ends = λ p why next e w. (λ b. refl, λ g. refl);
+      receives = λ p id x e c is. (λ b. refl, λ g. refl);
+      refuses = λ p id c d x e k is. (λ b. refl, λ g. refl);
+      dropped = λ id m why e over drops. (λ b. refl, λ g. refl);
+      gone = λ id m why e over w is. (λ b. refl, λ g. refl);
+      stops = λ id m x stopped e lives mild. (λ b. refl, λ g. refl);
+      kills = λ id m x e lives kill. (λ b. refl, λ g. refl);
+      reads = λ id m x base len e lives what. (λ b. refl, λ g. refl);
+      writes = λ id m x base bytes e lives what. (λ b. refl, λ g. refl);
+      lands = λ id m x r z e lives mild lands. (λ b. refl, λ g. refl);
+      done = λ id m x c z e lives mild lands. (λ b. refl, λ g. refl);
+      board = λ id m k e there to took. (λ b. absurd (off id e m there (pid_eq-is m.to switchboard to ∙ sym (pid_eq-is y switchboard b))), λ g. (sent_servers (record (without_message s id) { switchboard = k.switchboard }) k.answer).1);
+      manager = λ id m k e there to took. (λ b. (sent_servers (record (without_message s id) { manager = k.manager }) k.message).0, λ g. absurd (off id e m there (pid_eq-is m.to manager to ∙ sym (pid_eq-is y manager g))));
+      creates = λ id child m image links i e asked is new. (λ b. refl, λ g. refl);
+      no_room = λ id a c m image links e asked. (λ b. refl, λ g. refl);
+      asked = λ id m x machine e lives what. (λ b. refl, λ g. refl);
+      answered = λ id o p n e f. (λ b. refl, λ g. refl);
+    })
+
+pub kernel_servers : (s t : OneKernel) (y : Pid) (o : Option Label) → Avoids s y o → kernel_after s o ≡ Some t → ServerStays y s t
+kernel_servers s t y None h e = let f : s ≡ t = cc in subst (ServerStays y s) f (stays_same y s)
+kernel_servers s t y (Some l) h e = server_stays s t l y h e

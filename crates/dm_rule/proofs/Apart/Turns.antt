@@ -1,5 +1,6 @@
 -- A kernel's own message, a turn, and the other directives: the labels of a group are other processes'.
-use Rattle.dm_rule.proofs.Names.{◌≡◌, ◌≢◌, ℕ, ◌+◌, List, [], ◌∷◌, refl, ap, ◌∙◌, sym, Option, None, Some, Pid, pid_of, MsgId, PlainMessage, Boot, first_number, OneKernel, Line, Here, Point, label_of, Part, Says, Transmits, migrates, Spares}
+use Rattle.dm_rule.proofs.Names.{◌≡◌, ◌≢◌, ℕ, ◌+◌, List, [], ◌∷◌, refl, ap, ◌∙◌, sym, Option, None, Some, Pid, pid_of, MsgId, PlainMessage, Boot, first_number, OneKernel, Line, Here, Point, label_of, Part, Says, Transmits, migrates}
+use Rattle.dm_rule.proofs.Apart.Steps.{Avoids}
 use Rattle.dm_rule.proofs.Names.{arith, calls_off}
 use Rattle.dm_rule.specs.Rule as rule
 use Rattle.dm_rule.proofs.Groups.{IsNet}
@@ -9,7 +10,7 @@ use Rattle.dm_rule.proofs.Hearing.{Kept, IsHeardLine, hears_kept, calls_off_kept
 use Rattle.dm_rule.proofs.Apart.Rows.{apart_of}
 
 -- a kernel's own message is handled: no label, but that a request to move is answered
-apart_line : (y : Pid) (l : Line) → IsHeardLine l → (z : OneKernel) → Spares z y (label_of l)
+apart_line : (y : Pid) (l : Line) → IsHeardLine l → (z : OneKernel) → Avoids z y (label_of l)
 apart_line y (Line.Label l) h z = absurd h
 apart_line y _ h z = tt
 
@@ -32,7 +33,7 @@ turns_apart y b o m (i ∷ is) child off served = comes_apart y b o m i (o.kerne
 -- the other directives
 pub net_apart : (y : Pid) (ps : List Part) → IsNet ps → AllApart y ps
 net_apart y [] h = tt
-net_apart y (Says l ∷ ps) h = (λ z. (let e_ : Spares z y (label_of l) = search (arith, h.0) in e_), net_apart y ps h.1)
+net_apart y (Says l ∷ ps) h = (λ z. (let e_ : Avoids z y (label_of l) = search (arith, h.0) in e_), net_apart y ps h.1)
 net_apart y (Transmits a b l ∷ ps) h = (λ z. tt, net_apart y ps h.1)
 net_apart y _ h = absurd h.0
 

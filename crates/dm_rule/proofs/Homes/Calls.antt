@@ -120,7 +120,7 @@ sends_by P v a p x l false false false false f over is h =
       };
       others = λ q e. let s = encloses_process a id 0 ps q in record { slot = s.slot; owner = s.owner };
       messages = λ i e. let s = encloses_message a id 0 ps i e in (search arith);
-      servers = let s = encloses_servers a id 0 ps in record { child = s.child; name = s.name; answer = s.answer; asked = s.asked };
+      servers = let s = encloses_servers a id 0 ps in record { child = s.child; name = s.name; answer = s.answer; asked = s.asked; board = s.board };
     }
 
 -- a data move begins, with the owner of the link in slot r1

@@ -73,7 +73,7 @@ spells none r e m begun ps d w acting good h is ask =
 
 -- a group whose parts are good where the run stands
 pub group_keeps : NoneReplaced → (b : Boot) (r e : MsgId → ℕ) (pt : Point) (d : Step) (w : Spelled) → IsStill d → group_of b pt d ≡ Some w → AskNone w.lines → Home r e pt
-    → ((ps : List Part) → outcome b pt d ≡ Some ps → PartsGood pt.kernel e (actor d) ps) → Kept (actor d) w.point
+    → ((ps : List Part) → outcome b pt d ≡ Some ps → PartsGood pt.kernel e (actor pt.view d) ps) → Kept (actor pt.view d) w.point
 group_keeps none b r e pt (Step.Turn m) w still is ask h good =
     let (ps, comes, rest) = bind-is (outcome b pt (Step.Turn m)) (λ (xs : List Part). bind (after_line pt (Line.Head (Step.Turn m))) (λ (q : Point). bind (spelled q xs) (λ (z : Spelled). Some (behind (Line.Head (Step.Turn m) ∷ []) z)))) w is in
     spells none r e m (moved pt (Line.Head (Step.Turn m)) pt.kernel) ps (Step.Turn m) w refl (good ps comes) (begun_home r e pt m h) rest ask

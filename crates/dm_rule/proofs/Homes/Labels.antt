@@ -27,7 +27,7 @@ SaidAt s m (Label.NoSpace id f b) = ReceivedAt s m id
 SaidAt s m (Label.Asked id) = ⊤
 SaidAt s m (Label.Answered id o) = (p : Pid) → s.noted id ≡ Some p → p.home ≡ m
 
--- a label is said where its process is, where its message's receiver is or has ended, or at a server's or a kernel's home
+-- a label is said where its process is, where its message's receiver is or has ended, or at a kernel's home
 abbrev pub SaidOn : (Pid → Place → Type 0) → OneKernel → View → Addresses → Label → Type 0
 SaidOn P s v a (Label.Call p n c) = P p (acting_place v p)
 SaidOn P s v a (Label.Send p id) = P p (acting_place v p)
@@ -35,7 +35,7 @@ SaidOn P s v a (Label.Wait p) = P p (acting_place v p)
 SaidOn P s v a (Label.Out p w) = P p (acting_place v p)
 SaidOn P s v a (Label.Served id) = ServedAt P s v id
 SaidOn P s v a (Label.Gone id) = EndedAt P s v a id
-SaidOn P s v a (Label.Took id) = ReceivedAt s v.acting id
+SaidOn P s v a (Label.Took id) = ServedAt P s v id
 SaidOn P s v a (Label.Created id child) = ReceivedAt s v.acting id
 SaidOn P s v a (Label.NoSpace id f b) = ReceivedAt s v.acting id
 SaidOn P s v a (Label.Answered id o) = AnsweredAt P s v id

@@ -82,7 +82,7 @@ only_more a p None place gs h = h
 only_more a p (Some slot) place gs h = record {
   others = λ q e. let w = h.others q e in record { slot = λ k. ap (λ (c : Bool). if c && (slot == k) then place else given a gs (Slot q k)) e ∙ w.slot k; owner = w.owner };
   messages = λ i. let w = h.messages i in record { receiver = w.receiver; sender = w.sender; enclosed = w.enclosed };
-  servers = let w = h.servers in record { child = w.child; name = w.name; answer = w.answer; asked = w.asked };
+  servers = let w = h.servers in record { child = w.child; name = w.name; answer = w.answer; asked = w.asked; board = w.board };
 }
 
 pub only_receives : (a : Addresses) (p : Pid) (id : MsgId) (ls : List PlainLink) (n : ℕ) (slots : List (Option PlainLink)) → OnlySlots a (given a (receives_links a p id n slots ls)) p

@@ -1,7 +1,7 @@
 -- What processes do keeps addresses where they may be.
 use Rattle.dm_rule.proofs.Names.{◌≡◌, ℕ, zero, suc, ◌+◌, ◌==◌, ◌&&◌, Bool, true, false, List, [], ◌∷◌, refl, ap, ◌∙◌, sym, subst, inl, inr, arith, if◌then◌else◌, slice_get, None, Some, cases_Bool, nat_tests, Pid, Place, pid_eq, MsgId}
 use Rattle.dm_rule.proofs.Names.{id_eq, PlainMessage, PlainProcess, Life, Alive, OneKernel, with_process, with_sent, without_message, pid_eq-is, id_eq-is, id_eq-same, sent_at, sent_off, stayed, bind-is, Addresses, given, Slot, Owner}
-use Rattle.dm_rule.proofs.Names.{Receiver, Sender, Enclosed, Child, Name, Answer, AskedBy, encloses, at_hand-is}
+use Rattle.dm_rule.proofs.Names.{Receiver, Sender, Enclosed, Child, Name, Answer, AskedBy, ToBoard, encloses, at_hand-is}
 use Rattle.dm_onekernel.specs.Step as kernel
 use Rattle.dm_rule.proofs.Homes.{place_as, HomeProcess, HomeMessage, AtHome}
 
@@ -21,6 +21,7 @@ pub record SameServers (a b : Addresses) : Type 0 where
   pub name : (n : ℕ) → b (Name n) ≡ a (Name n)
   pub answer : (n : ℕ) → b (Answer n) ≡ a (Answer n)
   pub asked : (p : Pid) → b (AskedBy p) ≡ a (AskedBy p)
+  pub board : b ToBoard ≡ a ToBoard
 
 pub process_same : (P : Pid → Place → Type 0) (a b : Addresses) (p : Pid) (x : PlainProcess) → SameProcess a b p → HomeProcess P a p x → HomeProcess P b p x
 process_same P a b p x w h = record { slots = λ k l e. place_as P (w.slot k) (h.slots k l e); owner = λ q e. place_as P w.owner (h.owner q e) }
@@ -58,6 +59,7 @@ at_home_process P s a b p life h off on messages servers = record {
   named = λ n k e. place_as P (servers.name n) (h.named n k e);
   answers = λ n r l e f. place_as P (servers.answer n) (h.answers n r l e f);
   askers = λ q n e. place_as P (servers.asked q) (h.askers q n e);
+  board = place_as P servers.board h.board;
   rooted = h.rooted;
   pending = h.pending;
 }
@@ -70,6 +72,7 @@ at_home_out P s a id h = record {
   named = h.named;
   answers = h.answers;
   askers = h.askers;
+  board = h.board;
   rooted = h.rooted;
   pending = h.pending;
 }
@@ -127,13 +130,17 @@ encloses_asked : (a : Addresses) (id : MsgId) (n : ℕ) (ps : List Place) (q : P
 encloses_asked a id n [] q = refl
 encloses_asked a id n (p ∷ ps) q = encloses_asked a id (n + 1) ps q
 
+encloses_board : (a : Addresses) (id : MsgId) (n : ℕ) (ps : List Place) → given a (encloses id n ps) ToBoard ≡ a ToBoard
+encloses_board a id n [] = refl
+encloses_board a id n (p ∷ ps) = encloses_board a id (n + 1) ps
+
 encloses_other : (a : Addresses) (id : MsgId) (n : ℕ) (ps : List Place) (i : MsgId) (k : ℕ) → id_eq id i ≡ false → given a (encloses id n ps) (Enclosed i k) ≡ a (Enclosed i k)
 encloses_other a id n [] i k e = refl
 encloses_other a id n (p ∷ ps) i k e =
     ap (λ (c : Bool). if c && (n == k) then p else given a (encloses id (n + 1) ps) (Enclosed i k)) e ∙ encloses_other a id (n + 1) ps i k e
 
 pub encloses_servers : (a : Addresses) (id : MsgId) (n : ℕ) (ps : List Place) → SameServers a (given a (encloses id n ps))
-encloses_servers a id n ps = record { child = encloses_child a id n ps; name = encloses_name a id n ps; answer = encloses_answer a id n ps; asked = encloses_asked a id n ps }
+encloses_servers a id n ps = record { child = encloses_child a id n ps; name = encloses_name a id n ps; answer = encloses_answer a id n ps; asked = encloses_asked a id n ps; board = encloses_board a id n ps }
 
 pub encloses_process : (a : Addresses) (id : MsgId) (n : ℕ) (ps : List Place) (q : Pid) → SameProcess a (given a (encloses id n ps)) q
 encloses_process a id n ps q = record { slot = encloses_slot a id n ps q; owner = encloses_owner a id n ps q }

@@ -1,8 +1,8 @@
 -- What servers do keeps addresses where they may be.
 use Rattle.dm_rule.proofs.Names.{◌≡◌, ℕ, zero, suc, ◌+◌, ◌==◌, ◌&&◌, Bool, true, false, List, [], ◌∷◌, ◌++◌, refl, ap, ◌∙◌, sym, subst, ◌⊎◌, inl, inr, arith, nat_lt, nat_le, length, if◌then◌else◌, slice_get, Option, None, Some, cases_Bool}
-use Rattle.dm_rule.proofs.Names.{nat_tests, Pid, Place, PlainLink, MsgId, id_eq, id_of, PlainMessage, PlainWhat, bind, OneKernel, without_message, id_eq-same, View, Addresses, gets, given, Enclosed, unmoved, NamedLink, Pending, switchboard}
-use Rattle.dm_rule.proofs.Names.{is_general, Child, Name, Answer, AskedBy, place_named, board_finds, board_keeps, board_gets, links_in, ascends, and_parts, bytes_eq, option_map_or}
-use Rattle.dm_rule.proofs.Homes.{place_as, pid_as, acts_at, AtHome}
+use Rattle.dm_rule.proofs.Names.{nat_tests, Pid, Place, PlainLink, MsgId, id_eq, id_of, PlainMessage, PlainWhat, bind, OneKernel, without_message, id_eq-same, View, Addresses, gets, given, Enclosed, NamedLink, Pending, switchboard}
+use Rattle.dm_rule.proofs.Names.{is_general, Child, Name, Answer, AskedBy, ToBoard, acting_place, place_named, board_finds, board_keeps, board_gets, links_in, ascends, and_parts, bytes_eq, option_map_or}
+use Rattle.dm_rule.proofs.Homes.{place_as, pid_as, AtHome}
 use Rattle.dm_rule.proofs.Homes.Rows.{SameProcess, SameMessage, sent_home, at_home_out, process_same}
 use Rattle.dm_rule.proofs.Homes.Serves.{two, two_off}
 use Rattle.dm_rule.proofs.Requests.{by_test}
@@ -120,6 +120,7 @@ pub record AskedHome (P : Pid → Place → Type 0) (a b : Addresses) (sent : Ms
   pub child : (n : ℕ) → b (Child n) ≡ a (Child n)
   pub answer : (n : ℕ) → b (Answer n) ≡ a (Answer n)
   pub asked : (q : Pid) → b (AskedBy q) ≡ a (AskedBy q)
+  pub board : b ToBoard ≡ a ToBoard
 
 abbrev NamesHome : (Pid → Place → Type 0) → Addresses → List NamedLink → Type 0
 NamesHome P a names = (n : ℕ) (w : NamedLink) → slice_get names n ≡ Some w → P w.link.to (a (Name n))
@@ -182,33 +183,34 @@ asks_home P a id sent names (op ∷ name) ls en h =
     (to_register P a id sent names op name ls en h)
     (by_test (AsksHome P a id sent names (op ∷ name)) (op == 2) (board.asks_to_look_up names name ls) (board.board_bad_request names) (to_look_up P a id sent names op name ls h) (plain_asked P a sent names board.BadRequest refl h))
 
-board_request : (P : Pid → Place → Type 0) (s : OneKernel) (v : View) (a : Addresses) (id : MsgId) (code channel : ℕ) (body : List ℕ) (links : List PlainLink) → ((n : ℕ) (w : PlainLink) → slice_get links n ≡ Some w → P w.to (a (Enclosed id n))) → v.acting ≡ 0 → AtHome P s a
+board_request : (P : Pid → Place → Type 0) (s : OneKernel) (v : View) (a : Addresses) (id : MsgId) (code channel : ℕ) (body : List ℕ) (links : List PlainLink) → ((n : ℕ) (w : PlainLink) → slice_get links n ≡ Some w → P w.to (a (Enclosed id n))) → P switchboard (acting_place v switchboard) → AtHome P s a
     → AtHome P (service.switchboard_took s id (board.takes_request s.switchboard body links)) (given a (board_gets s v a id (PlainWhat.User code channel body links)))
 board_request P s v a id code channel body [] en at h =
     let u = at_home_out P s a id h in
-    record { processes = u.processes; messages = u.messages; children = u.children; named = u.named; answers = u.answers; askers = u.askers; rooted = u.rooted; pending = u.pending }
+    record { processes = u.processes; messages = u.messages; children = u.children; named = u.named; answers = u.answers; askers = u.askers; board = u.board; rooted = u.rooted; pending = u.pending }
 board_request P s v a id code channel body (l ∷ ls) en at h =
     let sent = id_of switchboard s.switchboard.sent in
     let asked = board.asks s.switchboard.names body ls in
     let k = asks_home P a id sent s.switchboard.names body ls (λ n w e. en (suc n) w e) h.named in
     let b = given a (board_finds a sent s.switchboard.names body asked.answer ++ board_keeps a id s.switchboard.names asked.answer) in
     let to = a (Enclosed id 0) in
-    let from = unmoved v.acting in
+    let from = acting_place v switchboard in
     let t = record (without_message s id) { switchboard = (board.takes_request s.switchboard body (l ∷ ls)).switchboard } in
     record {
       processes = λ q x e. process_same P a (given b (two sent to from)) q x (let w = k.process q in record { slot = w.slot; owner = w.owner }) (h.processes q x e);
       messages = sent_home P t a (given b (two sent to from)) (board.goes_over switchboard s.switchboard.sent l (((board.answer_row asked.answer).0) ∷ []) ((board.answer_row asked.answer).1)) (at_home_out P s a id h).messages
           (λ i e. let w = k.message i e in let z = two_off b sent to from i e in record { receiver = z.receiver ∙ w.receiver; sender = z.sender ∙ w.sender; enclosed = w.enclosed })
-          ((search (arith, place_as, id_eq-same, acts_at)));
+          ((search (arith, place_as, id_eq-same)));
       children = λ n q e. place_as P (k.child n) (h.children n q e);
       named = k.named;
       answers = λ n r l e f. place_as P (k.answer n) (h.answers n r l e f);
       askers = λ q n e. place_as P (k.asked q) (h.askers q n e);
+      board = place_as P k.board h.board;
       rooted = h.rooted;
       pending = h.pending;
     }
 
-pub board_row : (P : Pid → Place → Type 0) (s t : OneKernel) (v : View) (a : Addresses) (id : MsgId) (m : PlainMessage) (w : PlainWhat) → m.what ≡ w → s.bag id ≡ Some m → v.acting ≡ 0 → AtHome P s a
+pub board_row : (P : Pid → Place → Type 0) (s t : OneKernel) (v : View) (a : Addresses) (id : MsgId) (m : PlainMessage) (w : PlainWhat) → m.what ≡ w → s.bag id ≡ Some m → P switchboard (acting_place v switchboard) → AtHome P s a
     → bind (board.board_takes s.switchboard m w) (λ (k : board.BoardTook). Some (service.switchboard_took s id k)) ≡ Some t → AtHome P t (given a (board_gets s v a id w))
 board_row P s t v a id m (PlainWhat.User code channel body links) is there at h e =
     let k : service.switchboard_took s id (board.takes_request s.switchboard body links) ≡ t = cc in

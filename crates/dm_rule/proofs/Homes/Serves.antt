@@ -22,7 +22,7 @@ pub two_process : (a : Addresses) (i : MsgId) (to from : Place) (q : Pid) → Sa
 two_process a i to from q = record { slot = λ k. refl; owner = refl }
 
 pub two_servers : (a : Addresses) (i : MsgId) (to from : Place) → SameServers a (given a (two i to from))
-two_servers a i to from = record { child = λ n. refl; name = λ n. refl; answer = λ n. refl; asked = λ q. refl }
+two_servers a i to from = record { child = λ n. refl; name = λ n. refl; answer = λ n. refl; asked = λ q. refl; board = refl }
 
 pub two_off : (a : Addresses) (i : MsgId) (to from : Place) (j : MsgId) → id_eq i j ≡ false → SameMessage a (given a (two i to from)) j
 two_off a i to from j e = search arith
@@ -36,6 +36,7 @@ two_sends P s a m to from h none e f = record {
   named = h.named;
   answers = h.answers;
   askers = h.askers;
+  board = h.board;
   rooted = h.rooted;
   pending = h.pending;
 }
@@ -224,7 +225,7 @@ only_child a child id (l ∷ ls) n =
     record {
       others = λ q e. let w = h.others q e in record { slot = λ k. ap (λ (c : Bool). if c && (n == k) then a (Enclosed id n) else (given a (child_links a child id (n + 1) ls)) (Slot q k)) e ∙ w.slot k; owner = w.owner };
       messages = λ i. let w = h.messages i in record { receiver = w.receiver; sender = w.sender; enclosed = w.enclosed };
-      servers = let w = h.servers in record { child = w.child; name = w.name; answer = w.answer; asked = w.asked };
+      servers = let w = h.servers in record { child = w.child; name = w.name; answer = w.answer; asked = w.asked; board = w.board };
     }
 
 begun_at_home : (P : Pid → Place → Type 0) (s : OneKernel) (a : Addresses) (id : MsgId) (m : PlainMessage) (child : Pid) (image : BootImage) (links : List PlainLink) → AtHome P s a → s.bag id ≡ Some m → links_in m.what ≡ links
@@ -236,7 +237,7 @@ begun_at_home P s a id m child image links h there is =
     let hm = h.messages id m there in
     let hy : HomeProcess P b child y = (search (arith, begun_link, place_as, child_at)) in
     let u = at_home_process P (without_message s id) a b child (Alive y) (at_home_out P s a id h) o.others (alive_on P b child y hy) o.messages o.servers in
-    record { processes = u.processes; messages = u.messages; children = u.children; named = u.named; answers = u.answers; askers = u.askers; rooted = u.rooted; pending = u.pending }
+    record { processes = u.processes; messages = u.messages; children = u.children; named = u.named; answers = u.answers; askers = u.askers; board = u.board; rooted = u.rooted; pending = u.pending }
 
 created_row : (P : Pid → Place → Type 0) (s t : OneKernel) (v : View) (a : Addresses) (id : MsgId) (m : PlainMessage) (child : Pid) (links : List PlainLink) (image : BootImage) → service.creates_of s id m child links image ≡ Some t → s.bag id ≡ Some m → links_in m.what ≡ links
     → Named s → ReceivedAt s v.acting id → AtHome P s a → AtHome P t (given a (answer_gets a id (unmoved v.acting) ++ child_links a child id 0 links))
@@ -277,6 +278,7 @@ asked_row P s t a id m (PlainWhat.Move machine) is there h =
       named = u.named;
       answers = u.answers;
       askers = λ q o e. (search (arith, place_as, pid_as));
+      board = u.board;
       rooted = u.rooted;
       pending = u.pending;
     })

@@ -83,6 +83,7 @@ start_at_home b valid = record {
   named = λ n k e. absurd (let f : None ≡ Some k = e in cc);
   answers = λ n r l e f. absurd (let g : None ≡ Some r = e in cc);
   askers = λ p n e. absurd (let f : None ≡ Some n = e in cc);
+  board = refl;
   pending = refl;
 }
 

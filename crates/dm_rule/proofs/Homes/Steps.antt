@@ -91,6 +91,7 @@ send_row P s t v a p id (kernel.Calls number (calls.Sends m y)) nx w is h =
       named = λ n k e. place_as P (o.servers.name n) (h.named n k e);
       answers = λ n r l e f. place_as P (o.servers.answer n) (h.answers n r l e f);
       askers = λ q n e. place_as P (o.servers.asked q) (h.askers q n e);
+      board = place_as P o.servers.board h.board;
       rooted = h.rooted;
       pending = h.pending;
     }))

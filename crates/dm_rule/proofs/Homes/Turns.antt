@@ -124,7 +124,7 @@ turn_keeps none b r e pt m w is ask state h =
     (λ ps comes. good_of pt.kernel e m (rule.turns b pt m (pt.view.inbox m)) ps (turns_good b r e pt m (pt.view.inbox m) (λ i js front entered. in_bag_at r e pt m i js front entered state h) (h.lists.inbox m) h) comes)
 
 -- each group keeps all of it
-pub home_group : NoneReplaced → (b : Boot) (r e : MsgId → ℕ) (pt : Point) (d : Step) (w : Spelled) → IsStill d → group_of b pt d ≡ Some w → AskNone w.lines → State None pt → Home r e pt → Kept (actor d) w.point
+pub home_group : NoneReplaced → (b : Boot) (r e : MsgId → ℕ) (pt : Point) (d : Step) (w : Spelled) → IsStill d → group_of b pt d ≡ Some w → AskNone w.lines → State None pt → Home r e pt → Kept (actor pt.view d) w.point
 home_group none b r e pt (Step.Turn m) w still is ask state h = turn_keeps none b r e pt m w is ask state h
 home_group none b r e pt (Step.Tick m) w still is ask state h =
     let tick_keeps : NoneReplaced → (b : Boot) (r e : MsgId → ℕ) (pt : Point) (m : ℕ) (w : Spelled) → group_of b pt (Step.Tick m) ≡ Some w → AskNone w.lines → Home r e pt → Kept m w.point = λ none b r e pt m w is ask h.

@@ -1,10 +1,9 @@
 -- The rows of migration keep that each message stands once.
-use Rattle.dm_rule.proofs.Names.{◌≡◌, ℕ, ◌==◌, Bool, true, false, List, [], ◌∷◌, ◌++◌, refl, ap, ◌∙◌, sym, subst, length, if◌then◌else◌, Option, None, Some, Pid, pid_of, pid_eq, MsgId, MessageKind, Stage, Boot, switchboard, manager}
-use Rattle.dm_rule.proofs.Names.{PlainProcess, Line, View, Told, About, NothingElse, Known, Unknown, Here, Frozen, Forward, view_after, handled, handled_first, receiver_of, is_kernels, target_of, with_ring, knowing, released, after_proto}
+use Rattle.dm_rule.proofs.Names.{◌≡◌, ℕ, ◌==◌, Bool, true, false, List, [], ◌∷◌, ◌++◌, refl, ap, ◌∙◌, sym, subst, length, if◌then◌else◌, Option, None, Some, Pid, pid_of, MsgId, MessageKind, Stage, Boot, manager}
+use Rattle.dm_rule.proofs.Names.{Size, size_of, is_server, Line, View, Told, About, NothingElse, Known, Unknown, Here, Frozen, Forward, view_after, handled, handled_first, receiver_of, is_kernels, target_of, with_ring, knowing, released, after_proto}
 use Rattle.dm_rule.proofs.Names.{asks_on, held_for, Addresses, Sender, is_told_back, Point, moved, Part, Says, Again, Owns, Spelled, spelled, to_kernel, forwards_on, accepts, takes_chunk, takes_block, gives_piece, sends_on, leaves}
-use Rattle.dm_rule.proofs.Names.{told_step, chunks_of, pieces_of, told_here, told_ended, process_told, told_server, kernel_hears, hears, Spot, Queue, ids_at, bind-is, label_of, Label, MoveNote, Outcome, Target, answer_id, map, buried}
-use Rattle.dm_rule.proofs.Names.{buried_for, forgotten, preds_of, tells_end, answers_move, frozen_for, leaves_for, tells_asker, sets_off, sort_of, option_and_then, slice_get, arith, nat_tests, ◌/◌, bind, Of}
-use Rattle.dm_onekernel.specs.Step as kernel
+use Rattle.dm_rule.proofs.Names.{told_step, chunks_of, pieces_of, told_here, told_ended, process_told, kernel_hears, hears, Spot, Queue, Inbox, ids_at, bind-is, label_of, Label, MoveNote, Outcome, Target, answer_id, map, buried}
+use Rattle.dm_rule.proofs.Names.{buried_for, forgotten, preds_of, tells_end, answers_move, frozen_for, leaves_for, tells_asker, sets_off, sort_of, option_and_then, slice_get, arith, nat_tests, bind, Of, ring_with, seated}
 use Rattle.dm_rule.specs.Rule as rule
 use Rattle.dm_rule.proofs.Lines.{hidden, Stands-stays}
 use Rattle.dm_rule.proofs.Letters.{letters}
@@ -58,7 +57,7 @@ pub proto_off : (v : View) (o : Option Told) (z : Spot) → ids_at (after_proto 
 proto_off v None z = about_off v NothingElse z
 proto_off v (Some t) z = let asks_off : (v : View) (a : About) (z : Spot) → ids_at (asks_on v a) z ≡ ids_at v z = λ v a z. search arith in search (arith, about_off, asks_off)
 
-for_off : (v : View) (p : Pid) (to : ℕ) (z : Spot) → ids_at (frozen_for v p to) z ≡ ids_at v z
+pub for_off : (v : View) (p : Pid) (to : ℕ) (z : Spot) → ids_at (frozen_for v p to) z ≡ ids_at v z
 for_off v p to (Queue m q) = refl
 for_off v p to _ = refl
 
@@ -72,8 +71,20 @@ pub accepted_off : (v : View) (p : Pid) (z : Spot) → ids_at (view_after v (Lin
 accepted_off v p (Queue m q) = refl
 accepted_off v p _ = refl
 
-pub state_off : (v : View) (p : Pid) (z : Spot) → ids_at (view_after v (Line.Migration Stage.StateTaken p)) z ≡ ids_at (handled_first v) z
-state_off v p z = search arith
+-- of a process step 4 handles the chunk; of a server step 5 does, which follows at once
+pub state_off : (v : View) (p : Pid) → is_server p ≡ false → (z : Spot) → ids_at (view_after v (Line.Migration Stage.StateTaken p)) z ≡ ids_at (handled_first v) z
+state_off v p process (Queue m q) = refl
+state_off v p process (Inbox m) = ap (λ (c : Bool). (if c then v.inbox else (handled_first v).inbox) m) process
+state_off v p process _ = refl
+
+pub server_off : (v : View) (p : Pid) → is_server p ≡ true → (z : Spot) → ids_at (view_after v (Line.Migration Stage.StateTaken p)) z ≡ ids_at v z
+server_off v p server (Queue m q) = refl
+server_off v p server (Inbox m) = ap (λ (c : Bool). (if c then v.inbox else (handled_first v).inbox) m) server
+server_off v p server _ = refl
+
+-- and the chunk stays at the front
+pub server_front : (v : View) (p : Pid) (i : MsgId) (is : List MsgId) → is_server p ≡ true → v.inbox v.acting ≡ i ∷ is → (view_after v (Line.Migration Stage.StateTaken p)).inbox v.acting ≡ i ∷ is
+server_front v p i is server front = ap (λ (c : Bool). (if c then v.inbox else (handled_first v).inbox) v.acting) server ∙ front
 
 pub memory_off : (v : View) (p : Pid) (z : Spot) → ids_at (view_after v (Line.Migration Stage.MemoryTaken p)) z ≡ ids_at (handled_first v) z
 memory_off v p z = grind (arith, nat_tests)
@@ -86,12 +97,13 @@ pub left_off : (v : View) (p : Pid) (z : Spot) → ids_at (view_after v (Line.Mi
 left_off v p (Queue m q) = refl
 left_off v p _ = refl
 
--- a process is here again: its held messages come to the front of the inbox
+-- a process or a server is here again: its held messages come to the front of the inbox
 abbrev pub home_again : View → Pid → View
-home_again v p = with_ring (knowing v p Here) (v.ring v.acting ++ p ∷ [])
+home_again v p = seated (with_ring (knowing v p Here) (ring_with (v.ring v.acting) p)) p
 
 pub home_off : (v : View) (p : Pid) (z : Spot) → ids_at (home_again v p) z ≡ ids_at v z
-home_off v p z = search arith
+home_off v p (Queue m q) = refl
+home_off v p _ = refl
 
 pub restarted_off : (v : View) (p : Pid) (z : Spot) → ids_at (view_after v (Line.Migration Stage.Restarted p)) z ≡ ids_at (released (home_again (handled_first v) p) p) z
 restarted_off v p (Queue m q) = refl
@@ -147,9 +159,31 @@ proto_row : (pt : Point) (i : MsgId) (is : List MsgId) (k : MessageKind) (w : Sp
 proto_row pt i is k w h fit front mine e =
     line_owns pt (Line.Proto i) k (pid_of i.from.home 0) i.from.home w refl (refl) fit (goes_front pt (Line.Proto i) i is refl h front mine (λ z. proto_off (handled pt.view i) (pt.view.told i) z)) e
 
+-- the last chunk of a server, whose step 4 handles nothing
+pub server_state : (pt : Point) (p : Pid) → is_server p ≡ true → State None pt → State None (moved pt (Line.Migration Stage.StateTaken p) pt.kernel)
+server_state pt p server h =
+    let l = Line.Migration Stage.StateTaken p in
+    by_line None pt l refl h (Stands-stays (letters h.own pt.kernel.bag) pt.view (view_after pt.view l) (λ z. server_off pt.view p server z) (λ j. refl) h.stands) (λ j. refl)
+
+server_row : (pt : Point) (i : MsgId) (is : List MsgId) (p : Pid) (w : Spelled) → State None pt → PairsFit pt.view → pt.view.inbox pt.view.acting ≡ i ∷ is → is_kernels i ≡ true → is_server p ≡ true
+    → spelled pt (Says (Line.Migration Stage.StateTaken p) ∷ Says (Line.Migration Stage.MemoryTaken p) ∷ to_kernel MessageKind.AllTaken i.from.home ∷ []) ≡ Some w → State None w.point
+server_row pt i is p w h fit front mine server e =
+    let l = Line.Migration Stage.StateTaken p in
+    let next = moved pt l pt.kernel in
+    let n = line_next pt l (Says (Line.Migration Stage.MemoryTaken p) ∷ to_kernel MessageKind.AllTaken i.from.home ∷ []) w refl e in
+    State-at None n.rest.point w.point n.point
+    (line_owns next (Line.Migration Stage.MemoryTaken p) MessageKind.AllTaken (pid_of i.from.home 0) i.from.home n.rest refl refl (fits_as pt.view next.view (pair_same pt.view l refl) fit)
+    (goes_first next (Line.Migration Stage.MemoryTaken p) i is refl (server_state pt p server h) (server_front pt.view p i is server front) mine (λ z. memory_off next.view p z)) n.more)
+
+last_row : (pt : Point) (i : MsgId) (is : List MsgId) (p : Pid) (server : Bool) (w : Spelled) → is_server p ≡ server → State None pt → PairsFit pt.view → pt.view.inbox pt.view.acting ≡ i ∷ is → is_kernels i ≡ true
+    → spelled pt (if server then Says (Line.Migration Stage.StateTaken p) ∷ Says (Line.Migration Stage.MemoryTaken p) ∷ to_kernel MessageKind.AllTaken i.from.home ∷ [] else Says (Line.Migration Stage.StateTaken p) ∷ to_kernel MessageKind.PullBlock i.from.home ∷ []) ≡ Some w
+    → State None w.point
+last_row pt i is p true w server h fit front mine e = server_row pt i is p w h fit front mine server e
+last_row pt i is p false w process h fit front mine e =
+    line_owns pt (Line.Migration Stage.StateTaken p) MessageKind.PullBlock (pid_of i.from.home 0) i.from.home w refl refl fit (goes_first pt (Line.Migration Stage.StateTaken p) i is refl h front mine (λ z. state_off pt.view p process z)) e
+
 chunk_row : (pt : Point) (i : MsgId) (is : List MsgId) (p : Pid) (last : Bool) (w : Spelled) → State None pt → PairsFit pt.view → pt.view.inbox pt.view.acting ≡ i ∷ is → is_kernels i ≡ true → spelled pt (takes_chunk i p last) ≡ Some w → State None w.point
-chunk_row pt i is p true w h fit front mine e =
-    line_owns pt (Line.Migration Stage.StateTaken p) MessageKind.PullBlock (pid_of i.from.home 0) i.from.home w refl refl fit (goes_first pt (Line.Migration Stage.StateTaken p) i is refl h front mine (λ z. state_off pt.view p z)) e
+chunk_row pt i is p true w h fit front mine e = last_row pt i is p (is_server p) w refl h fit front mine e
 chunk_row pt i is p false w h fit front mine e = proto_row pt i is MessageKind.PullState w h fit front mine e
 
 block_row : (pt : Point) (i : MsgId) (is : List MsgId) (p : Pid) (last : Bool) (w : Spelled) → State None pt → PairsFit pt.view → pt.view.inbox pt.view.acting ≡ i ∷ is → is_kernels i ≡ true → spelled pt (takes_block i p last) ≡ Some w → State None w.point
@@ -183,7 +217,7 @@ given pt qs ps w e n = let f : qs ≡ ps = cc in ap (spelled pt) f ∙ n
 pub both_same : (o pt : Point) (m : ℕ) (p : Pid) → SeesSame o pt m → both_lists pt.view p ≡ o.view.queue m p ++ o.view.held m p
 both_same o pt m p sees = sym (ap (λ (q : List MsgId). q ++ o.view.held m p) (sees.queue p) ∙ ap (λ (q : List MsgId). pt.view.queue pt.view.acting p ++ q) (sees.held p))
 
-told_row : (o pt : Point) (m : ℕ) (i : MsgId) (is : List MsgId) (p : Pid) (room : Bool × ℕ × ℕ) (x : PlainProcess) (k : MessageKind) (parts : List Part) (w : Spelled) → State None pt → PairsFit pt.view → pt.view.inbox pt.view.acting ≡ i ∷ is → is_kernels i ≡ true → SeesSame o pt m
+told_row : (o pt : Point) (m : ℕ) (i : MsgId) (is : List MsgId) (p : Pid) (room : Bool × ℕ × ℕ) (x : Size) (k : MessageKind) (parts : List Part) (w : Spelled) → State None pt → PairsFit pt.view → pt.view.inbox pt.view.acting ≡ i ∷ is → is_kernels i ≡ true → SeesSame o pt m
     → told_step o m i p room x (sort_of k) ≡ Some parts → spelled pt parts ≡ Some w → State None w.point
 told_row o pt m i is p room x MessageKind.Ask parts w h fit front mine sees e n = accepts_row pt i is p i.from.home room.0 room.1 room.2 w h fit front mine (given pt (accepts i.from.home p room.0 room.1 room.2) parts w e n)
 told_row o pt m i is p room x MessageKind.Refuse parts w h fit front mine sees e n =
@@ -205,11 +239,11 @@ told_row o pt m i is p room x _ parts w h fit front mine sees e n = cc
 
 -- a piece that isn't awaited, or what a kernel is told
 due_row : (b : Boot) (o pt : Point) (m : ℕ) (i : MsgId) (is : List MsgId) (k : MessageKind) (p : Pid) (stale : Bool) (parts : List Part) (w : Spelled) → State None pt → PairsFit pt.view → pt.view.inbox pt.view.acting ≡ i ∷ is → is_kernels i ≡ true → SeesSame o pt m
-    → (if stale then Some (Says (Line.Stale i) ∷ []) else bind (kernel.alive (o.kernel.processes p)) (λ (x : PlainProcess). told_step o m i p (rule.fits (rule.free_room b o m) (length x.memory / 256)) x (sort_of k))) ≡ Some parts → spelled pt parts ≡ Some w → State None w.point
+    → (if stale then Some (Says (Line.Stale i) ∷ []) else bind (size_of o.kernel p) (λ (x : Size). told_step o m i p (rule.fits (rule.free_room b o m) x.blocks) x (sort_of k))) ≡ Some parts → spelled pt parts ≡ Some w → State None w.point
 due_row b o pt m i is k p true parts w h fit front mine sees e n = line_ends pt (Line.Stale i) w refl (goes_front pt (Line.Stale i) i is refl h front mine (λ z. refl)) (given pt (Says (Line.Stale i) ∷ []) parts w e n)
 due_row b o pt m i is k p false parts w h fit front mine sees e n =
-    let (x, alive, steps) = bind-is (kernel.alive (o.kernel.processes p)) (λ (x : PlainProcess). told_step o m i p (rule.fits (rule.free_room b o m) (length x.memory / 256)) x (sort_of k)) parts e in
-    told_row o pt m i is p (rule.fits (rule.free_room b o m) (length x.memory / 256)) x k parts w h fit front mine sees steps n
+    let (x, alive, steps) = bind-is (size_of o.kernel p) (λ (x : Size). told_step o m i p (rule.fits (rule.free_room b o m) x.blocks) x (sort_of k)) parts e in
+    told_row o pt m i is p (rule.fits (rule.free_room b o m) x.blocks) x k parts w h fit front mine sees steps n
 
 -- a process has ended elsewhere: the machine forgets it, and others are told in turn
 bury_row : (o pt : Point) (m : ℕ) (i : MsgId) (is : List MsgId) (p : Pid) (w : Spelled) → State None pt → PairsFit pt.view → pt.view.inbox pt.view.acting ≡ i ∷ is → is_kernels i ≡ true → spelled pt (buried o m i p) ≡ Some w → State None w.point
@@ -226,7 +260,7 @@ bury_row o pt m i is p w h fit front mine e =
 over_row : (b : Boot) (o pt : Point) (m : ℕ) (i : MsgId) (is : List MsgId) (k : MessageKind) (p : Pid) (over : Bool) (parts : List Part) (w : Spelled) → State None pt → PairsFit pt.view → pt.view.inbox pt.view.acting ≡ i ∷ is → is_kernels i ≡ true → SeesSame o pt m
     → (if over then Some (buried o m i p)
     else if rule.is_stale o m i k p then Some (Says (Line.Stale i) ∷ [])
-    else bind (kernel.alive (o.kernel.processes p)) (λ (x : PlainProcess). told_step o m i p (rule.fits (rule.free_room b o m) (length x.memory / 256)) x (sort_of k))) ≡ Some parts
+    else bind (size_of o.kernel p) (λ (x : Size). told_step o m i p (rule.fits (rule.free_room b o m) x.blocks) x (sort_of k))) ≡ Some parts
     → spelled pt parts ≡ Some w → State None w.point
 over_row b o pt m i is k p true parts w h fit front mine sees e n = bury_row o pt m i is p w h fit front mine (given pt (buried o m i p) parts w e n)
 over_row b o pt m i is k p false parts w h fit front mine sees e n = due_row b o pt m i is k p (rule.is_stale o m i k p) parts w h fit front mine sees e n
@@ -251,20 +285,10 @@ ended_row pt i is MessageKind.Migrate parts w h front mine e n = line_ends pt (L
 ended_row pt i is MessageKind.Update parts w h front mine e n = updated_row pt pt i is 0 parts w h front mine e n
 ended_row pt i is _ parts w h front mine e n = cc
 
-server_row : (o pt : Point) (i : MsgId) (is : List MsgId) (t : Told) (k : MessageKind) (parts : List Part) (w : Spelled) → State None pt → pt.view.inbox pt.view.acting ≡ i ∷ is → is_kernels i ≡ true → told_server o i t (sort_of k) ≡ Some parts → spelled pt parts ≡ Some w → State None w.point
-server_row o pt i is t MessageKind.Update parts w h front mine e n = updated_row o pt i is _ parts w h front mine e n
-server_row o pt i is t _ parts w h front mine e n = cc
-
-own_row : (o pt : Point) (m : ℕ) (i : MsgId) (is : List MsgId) (t : Told) (d g : Bool) (parts : List Part) (w : Spelled) → State None pt → PairsFit pt.view → pt.view.topic ≡ NothingElse → pt.view.inbox pt.view.acting ≡ i ∷ is → is_kernels i ≡ true
-    → (if d then told_server o i t (sort_of t.kind) else if g then told_server o i t (sort_of t.kind) else told_here o m i t (sort_of t.kind)) ≡ Some parts → spelled pt parts ≡ Some w → State None w.point
-own_row o pt m i is t true g parts w h fit topic front mine e n = server_row o pt i is t t.kind parts w h front mine e n
-own_row o pt m i is t false true parts w h fit topic front mine e n = server_row o pt i is t t.kind parts w h front mine e n
-own_row o pt m i is t false false parts w h fit topic front mine e n = here_row o pt m i is t t.kind parts w h fit topic front mine e n
-
 process_row : (o pt : Point) (m : ℕ) (i : MsgId) (is : List MsgId) (t : Told) (k : Known) (parts : List Part) (w : Spelled) → State None pt → PairsFit pt.view → pt.view.topic ≡ NothingElse → pt.view.inbox pt.view.acting ≡ i ∷ is → is_kernels i ≡ true
     → process_told o m i t k ≡ Some parts → spelled pt parts ≡ Some w → State None w.point
 process_row o pt m i is t Unknown parts w h fit topic front mine e n = ended_row pt i is t.kind parts w h front mine e n
-process_row o pt m i is t Here parts w h fit topic front mine e n = own_row o pt m i is t (pid_eq t.receiver switchboard) (pid_eq t.receiver manager) parts w h fit topic front mine e n
+process_row o pt m i is t Here parts w h fit topic front mine e n = here_row o pt m i is t t.kind parts w h fit topic front mine e n
 process_row o pt m i is t (Forward at moves) parts w h fit topic front mine e n =
     forwards_row pt o.addresses i is t.kind manager at w h fit front (given pt (forwards_on o.addresses i t.kind manager at) parts w e n)
 process_row o pt m i is t _ parts w h fit topic front mine e n = held_row pt i is w h front (given pt (Says (Line.Held i) ∷ []) parts w e n)

@@ -1,7 +1,7 @@
 -- Wherever the rule leads, each process is in a phase.
 use Rattle.dm_rule.proofs.Names.{◌≡◌, ℕ, ◌<◌, ◌≤◌, ◌==◌, ◌&&◌, ◌||◌, Bool, true, false, List, [], ◌∷◌, ◌++◌, length, refl, ap, ◌∙◌, sym, subst, inl, inr, arith, if◌then◌else◌, map, option_map, None, Some, cases_Bool, slice_get_cases}
 use Rattle.dm_rule.proofs.Names.{nat_tests, Pid, pid_eq, plain_link, BootProcess, Boot, IsValid, processes_are_valid, switchboard, manager, Alive, begun, first_life, life_at, Step, View, first_view, Known, Unknown, Here, known_at, ring_at}
-use Rattle.dm_rule.proofs.Names.{Point, first_point, is_due, IsStep, Leads, PhasesAlways, MsgId, MessageKind, Told, Of, is_away, tells_end, sort_of, Phase, IsIn, PlainProcess, Spelled, group_of, false_from_ne_true, KernelsInOrderAlways}
+use Rattle.dm_rule.proofs.Names.{Point, first_point, is_due, IsStep, Leads, PhasesAlways, MsgId, MessageKind, Told, Of, is_away, is_server, tells_end, sort_of, Phase, IsIn, PlainProcess, Spelled, group_of, false_from_ne_true, KernelsInOrderAlways}
 use Rattle.dm_rule.proofs.Pairs.{Pairs, Pairs-start, Pairs-group}
 use Rattle.dm_rule.proofs.States.{State}
 use Rattle.dm_rule.proofs.Groups.{fits, State-start, State-group}
@@ -11,7 +11,7 @@ use Rattle.dm_rule.proofs.Phases.Stand.{InPhases}
 use Rattle.dm_rule.proofs.Phases.Start.{phases_start}
 use Rattle.dm_rule.proofs.Phases.Groups.{phases_group}
 use Rattle.dm_rule.proofs.Phases.Ranked.{Ranked}
-use Rattle.dm_rule.proofs.Phases.Ends.{IsEnded, HaveEnds, have_ends, ends_in, ended_gone, living_on, is_gone}
+use Rattle.dm_rule.proofs.Phases.Ends.{IsEnded, HaveEnds, have_ends, ends_in, living_on, server_on, is_gone}
 use Rattle.dm_rule.proofs.Phases.Ending.{ends_start, ends_group}
 use Rattle.dm_rule.proofs.Phases.Order.{ranked_start, ranked_group, ranked_order}
 use Rattle.dm_rule.proofs.Rings.{AllHere}
@@ -119,6 +119,10 @@ bury_away pt i t p h told k about m = ended_away pt p h (bury_over pt i t p h to
 -- of what lives the phase is `Rests` or `Moves`
 pub living_phase : (pt : Point) (p : Pid) (x : PlainProcess) (phase : Phase) → Phased pt → pt.kernel.processes p ≡ Some (Alive x) → IsIn pt.view p phase → is_gone phase ≡ false
 living_phase pt p x phase h alive is = living_on pt p x phase (ends_in pt h.ends) alive is
+
+-- and of a server, which is here somewhere, leaves or comes
+pub server_phase : (pt : Point) (p : Pid) (phase : Phase) → Phased pt → is_server p ≡ true → IsIn pt.view p phase → is_gone phase ≡ false
+server_phase pt p phase h server is = server_on pt p phase (ends_in pt h.ends) server is
 
 -- wherever the rule leads
 pub phases_always : PhasesAlways

@@ -89,7 +89,7 @@ pub waited_is : (from : ℕ) (y : Known) → is_waited_from from y ≡ true → 
 waited_is from (Incoming m) e = ap Incoming (sym (eqb-true from m e))
 waited_is from _ e = absurd (false≢true e)
 
-brings_between : (k : MessageKind) → brings_piece (sort_of k) ≡ true → is_between k ≡ true
+pub brings_between : (k : MessageKind) → brings_piece (sort_of k) ≡ true → is_between k ≡ true
 brings_between MessageKind.State e = refl
 brings_between MessageKind.Memory e = refl
 brings_between _ e = absurd (false≢true e)

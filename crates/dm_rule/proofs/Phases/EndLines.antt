@@ -3,6 +3,7 @@ use Rattle.dm_rule.proofs.Names.{◌≡◌, ◌⊎◌, ℕ, ◌==◌, Bool, true
 use Rattle.dm_rule.proofs.Names.{MessageKind, id_eq, id_eq-is, Label, Load, Stage, Line, plain_kind, PlainWhat, OneKernel, View, Told, Of, Known, Unknown, Here, Receiver, at_record, after_step, view_after, after_label, after_put, handled}
 use Rattle.dm_rule.proofs.Names.{own_id, receiver_of, front_of, gone_to, goes_back, taken_id, dropped_for, served_told, ends_by, is_away, sort_of, tells_end, Point, label_of, kernel_after, moved, after_line, after, bind-is, Part, Says}
 use Rattle.dm_rule.proofs.Names.{Routes, Again, Owns, Transmits, Spelled, spelled, lines_of, puts, goes_out, packet_line, ended_stays_of}
+use Rattle.dm_rule.proofs.Names.{◌||◌, arith, nat_tests, nat_le, is_some, is_server, switchboard, manager, Life, Made}
 use Rattle.dm_rule.specs.View as view
 use Rattle.dm_rule.proofs.Hushed.{is_put, hushed}
 use Rattle.dm_rule.proofs.Homes.Lines.{acting_label}
@@ -39,17 +40,19 @@ Others v p = (m : ℕ) → (v.acting == m) ≡ false → is_away (v.known m p) �
 record Placed (s : OneKernel) (v : View) : Type 0 where
   away : (m : ℕ) (p : Pid) → lives s p ≡ Some false → is_away (v.known m p) ≡ true
   there : (p : Pid) → lives s p ≡ Some true → Somewhere v p
+  servers : (p : Pid) → is_server p ≡ true → Somewhere v p
 
 placed_of : (pt : Point) → Ends pt → Placed pt.kernel pt.view
 placed_of pt h = record {
   away = λ m p over. h.away m p (life_ended (pt.kernel.processes p) over);
   there = λ p alive. let (x, is) = life_alive (pt.kernel.processes p) alive in h.there p x is;
+  servers = h.servers;
 }
 
 -- what becomes of one process
 placed_by : (s t : OneKernel) (v w : View) (p : Pid) → ((q : Pid) → pid_eq p q ≡ false → lives t q ≡ lives s q) → ((m : ℕ) (q : Pid) → pid_eq p q ≡ false → w.known m q ≡ v.known m q)
-    → ((m : ℕ) → lives t p ≡ Some false → is_away (w.known m p) ≡ true) → (lives t p ≡ Some true → Somewhere w p) → Placed s v → Placed t w
-placed_by s t v w p same known away there h = record {
+    → ((m : ℕ) → lives t p ≡ Some false → is_away (w.known m p) ≡ true) → (lives t p ≡ Some true → Somewhere w p) → (is_server p ≡ true → Somewhere w p) → Placed s v → Placed t w
+placed_by s t v w p same known away there serves h = record {
   away = λ m q over. elim (cases_Bool (pid_eq p q)) [
     | inl is ↦ subst (λ (z : Pid). is_away (w.known m z) ≡ true) (pid_eq-is p q is) (away m (subst (λ (z : Pid). lives t z ≡ Some false) (sym (pid_eq-is p q is)) over))
     | inr off ↦ ap is_away (known m q off) ∙ h.away m q (sym (same q off) ∙ over)
@@ -58,12 +61,17 @@ placed_by s t v w p same known away there h = record {
     | inl is ↦ subst (λ (z : Pid). Somewhere w z) (pid_eq-is p q is) (there (subst (λ (z : Pid). lives t z ≡ Some true) (sym (pid_eq-is p q is)) alive))
     | inr off ↦ let (m, on) = h.there q (sym (same q off) ∙ alive) in (m, ap is_away (known m q off) ∙ on)
   ];
+  servers = λ q server. elim (cases_Bool (pid_eq p q)) [
+    | inl is ↦ subst (λ (z : Pid). Somewhere w z) (pid_eq-is p q is) (serves (subst (λ (z : Pid). is_server z ≡ true) (sym (pid_eq-is p q is)) server))
+    | inr off ↦ let (m, on) = h.servers q server in (m, ap is_away (known m q off) ∙ on)
+  ];
 }
 
 placed_same : (s t : OneKernel) (v w : View) → Same s t → ((m : ℕ) (q : Pid) → w.known m q ≡ v.known m q) → Placed s v → Placed t w
 placed_same s t v w same known h = record {
   away = λ m q over. ap is_away (known m q) ∙ h.away m q (sym (same q) ∙ over);
   there = λ q alive. let (m, on) = h.there q (sym (same q) ∙ alive) in (m, ap is_away (known m q) ∙ on);
+  servers = λ q server. let (m, on) = h.servers q server in (m, ap is_away (known m q) ∙ on);
 }
 
 -- one machine learns something of one process
@@ -83,25 +91,39 @@ away_if false k y now was = was refl
 -- it has one that hasn't ended
 placed_learns : (s t : OneKernel) (v w : View) (p : Pid) (k : Known) → Same s t → w.known ≡ at_record v.known v.acting p k → (lives s p ≡ Some false → ⊥) → is_away k ≡ false → Placed s v → Placed t w
 placed_learns s t v w p k same known lasts on h =
-    placed_by s t v w p (λ q off. same q) (known_off v w p k known) (λ m over. absurd (lasts (sym (same p) ∙ over))) (λ alive. (v.acting, ap is_away (known_here v w p k known) ∙ on)) h
+    placed_by s t v w p (λ q off. same q) (known_off v w p k known) (λ m over. absurd (lasts (sym (same p) ∙ over))) (λ alive. (v.acting, ap is_away (known_here v w p k known) ∙ on)) (λ server. (v.acting, ap is_away (known_here v w p k known) ∙ on)) h
 
 -- it has one no more that another has
-placed_goes : (s t : OneKernel) (v w : View) (p : Pid) (k : Known) → Same s t → w.known ≡ at_record v.known v.acting p k → (is_away (v.known v.acting p) ≡ true → is_away k ≡ true) → (lives s p ≡ Some true → Elsewhere v p) → Placed s v → Placed t w
-placed_goes s t v w p k same known goes elsewhere h =
+elsewhere_stays : (v w : View) (p : Pid) (k : Known) → w.known ≡ at_record v.known v.acting p k → Elsewhere v p → Somewhere w p
+elsewhere_stays v w p k known h = let (m, off, on) = h in (m, ap is_away (known_at v w p k known m ∙ ap (λ (c : Bool). if c then k else v.known m p) off) ∙ on)
+
+placed_goes : (s t : OneKernel) (v w : View) (p : Pid) (k : Known) → Same s t → w.known ≡ at_record v.known v.acting p k → (is_away (v.known v.acting p) ≡ true → is_away k ≡ true) → (lives s p ≡ Some true → Elsewhere v p) → (is_server p ≡ true → Elsewhere v p) → Placed s v → Placed t w
+placed_goes s t v w p k same known goes elsewhere serves h =
     placed_by s t v w p (λ q off. same q) (known_off v w p k known)
     (λ m over. ap is_away (known_at v w p k known m) ∙ away_if (v.acting == m) k (v.known m p) (λ e. goes (h.away v.acting p (sym (same p) ∙ over))) (λ e. h.away m p (sym (same p) ∙ over)))
-    (λ alive. let (m, off, on) = elsewhere (sym (same p) ∙ alive) in (m, ap is_away (known_at v w p k known m ∙ ap (λ (c : Bool). if c then k else v.known m p) off) ∙ on)) h
+    (λ alive. elsewhere_stays v w p k known (elsewhere (sym (same p) ∙ alive))) (λ server. elsewhere_stays v w p k known (serves server)) h
+
+-- what was made is no server
+made_life : (l : Option Life) (b : Bool) → life_of l ≡ Some b → is_some l ≡ true
+made_life None b e = cc
+made_life (Some l) b e = refl
+
+made_plain : (s : OneKernel) (p : Pid) (b : Bool) → Made s → lives s p ≡ Some b → is_server p ≡ false
+made_plain s p b made is =
+    let least : nat_le 3 p.num ≡ true = made.least p (made_life (s.processes p) b is) in
+    let f : (pid_eq p switchboard || pid_eq p manager) ≡ false = grind (arith, nat_tests) in
+    f
 
 -- one ends where it is, or is made
-placed_ends : (s t : OneKernel) (v w : View) (p : Pid) → Sets s p false t → w.known ≡ at_record v.known v.acting p Unknown → Others v p → Placed s v → Placed t w
-placed_ends s t v w p sets_ known others h =
+placed_ends : (s t : OneKernel) (v w : View) (p : Pid) → is_server p ≡ false → Sets s p false t → w.known ≡ at_record v.known v.acting p Unknown → Others v p → Placed s v → Placed t w
+placed_ends s t v w p plain sets_ known others h =
     placed_by s t v w p sets_.others (known_off v w p Unknown known) (λ m over. ap is_away (known_at v w p Unknown known m) ∙ away_if (v.acting == m) Unknown (v.known m p) (λ e. refl) (λ e. others m e))
-    (λ alive. absurd (let f : Some false ≡ Some true = sym sets_.now ∙ alive in let g : false ≡ true = cc in false≢true g)) h
+    (λ alive. absurd (let f : Some false ≡ Some true = sym sets_.now ∙ alive in let g : false ≡ true = cc in false≢true g)) (λ server. absurd (false≢true (sym plain ∙ server))) h
 
 placed_born : (s t : OneKernel) (v w : View) (p : Pid) → Sets s p true t → w.known ≡ at_record v.known v.acting p Here → Placed s v → Placed t w
 placed_born s t v w p sets_ known h =
     placed_by s t v w p sets_.others (known_off v w p Here known) (λ m over. absurd (let f : Some true ≡ Some false = sym sets_.now ∙ over in let g : true ≡ false = cc in false≢true (sym g)))
-    (λ alive. (v.acting, ap is_away (known_here v w p Here known))) h
+    (λ alive. (v.acting, ap is_away (known_here v w p Here known))) (λ server. (v.acting, ap is_away (known_here v w p Here known))) h
 
 -- the lines that change what machines know of processes, or that no part says
 abbrev pub changes : Line → Bool
@@ -129,11 +151,11 @@ label_known v (Label.Created id p) e m q = not_changes e
 label_known v (Label.Dropped id) e m q = dropped_known (handled v id) id (receiver_of (v.told id)) m q
 label_known v any_ e m q = refl
 
-dropped_topic : (v : View) (i : MsgId) (o : Option Pid) → (dropped_for v i o).topic ≡ v.topic
+pub dropped_topic : (v : View) (i : MsgId) (o : Option Pid) → (dropped_for v i o).topic ≡ v.topic
 dropped_topic v i None = refl
 dropped_topic v i (Some p) = refl
 
-taken_known : (v : View) (b : ℕ) (o : Option MsgId) (m : ℕ) (q : Pid) → (taken_id v b o).known m q ≡ v.known m q
+pub taken_known : (v : View) (b : ℕ) (o : Option MsgId) (m : ℕ) (q : Pid) → (taken_id v b o).known m q ≡ v.known m q
 taken_known v b None m q = refl
 taken_known v b (Some i) m q = refl
 
@@ -200,7 +222,7 @@ Needs pt (Line.Called p n) = Elsewhere pt.view p
 Needs pt (Line.Buried id n) = Buries pt id
 Needs pt _ = ⊤
 
-kill_is : (k : MessageKind) → is_kill k ≡ true → k ≡ MessageKind.Kill
+pub kill_is : (k : MessageKind) → is_kill k ≡ true → k ≡ MessageKind.Kill
 kill_is MessageKind.Kill e = refl
 kill_is _ e = cc
 
@@ -208,26 +230,27 @@ kill_is _ e = cc
 killed_is : (v : View) (u : Told) (o : Option Told) → o ≡ Some u → u.kind ≡ MessageKind.Kill → served_told v o ≡ view.ended v u.receiver
 killed_is v u o told kill = ap (served_told v) told ∙ ap (λ (k : MessageKind). ends_by (sort_of k) v (Some u.receiver)) kill
 
-served_placed : (pt : Point) (t : OneKernel) (id : MsgId) → Serves pt id → Sane pt → Kills pt.kernel id t ⊎ Spares pt.kernel id t → Placed pt.kernel pt.view → Placed t (after_label pt.view (Label.Served id))
-served_placed pt t id need sane a h =
+served_placed : (pt : Point) (t : OneKernel) (id : MsgId) → Serves pt id → Sane pt → Made t → Kills pt.kernel id t ⊎ Spares pt.kernel id t → Placed pt.kernel pt.view → Placed t (after_label pt.view (Label.Served id))
+served_placed pt t id need sane made a h =
     let v = pt.view in
     elim a [
       | inl k ↦
           let kill : need.u.kind ≡ MessageKind.Kill = kill_is need.u.kind (ap is_kill (sane.tells.kind id k.m need.u k.there need.told) ∙ k.kill) in
           let same : k.m.to ≡ need.u.receiver = sym (sane.tells.receiver id k.m need.u k.there need.told) in
           let is = killed_is (handled v id) need.u (v.told id) need.told kill in
-          placed_ends pt.kernel t v (after_label v (Label.Served id)) need.u.receiver (subst (λ (q : Pid). Sets pt.kernel q false t) same k.sets) (ap (λ (w : View). w.known) is) (need.others kill) h
+          let ended : Sets pt.kernel need.u.receiver false t = subst (λ (q : Pid). Sets pt.kernel q false t) same k.sets in
+          placed_ends pt.kernel t v (after_label v (Label.Served id)) need.u.receiver (made_plain t need.u.receiver false made ended.now) ended (ap (λ (w : View). w.known) is) (need.others kill) h
       | inr k ↦
           let mild : is_kill need.u.kind ≡ false = ap is_kill (sane.tells.kind id k.m need.u k.there need.told) ∙ k.mild in
           placed_same pt.kernel t v (after_label v (Label.Served id)) k.same (λ m q. served_known (handled v id) (v.told id) need.u need.told mild m q) h
     ]
 
-label_placed : (pt : Point) (t : OneKernel) (l : Label) → Needs pt (Line.Label l) → Sane pt → After pt.kernel l t → Placed pt.kernel pt.view → Placed t (after_label pt.view l)
-label_placed pt t (Label.End p y) need sane a h = placed_ends pt.kernel t pt.view (after_label pt.view (Label.End p y)) p a refl need h
-label_placed pt t (Label.Served id) need sane a h = served_placed pt t id need sane a h
-label_placed pt t (Label.Created id p) need sane a h = placed_born pt.kernel t pt.view (after_label pt.view (Label.Created id p)) p a refl h
-label_placed pt t (Label.Dropped id) need sane a h = placed_same pt.kernel t pt.view (after_label pt.view (Label.Dropped id)) a (λ m q. label_known pt.view (Label.Dropped id) refl m q) h
-label_placed pt t any_ need sane a h = placed_same pt.kernel t pt.view (after_label pt.view any_) a (λ m q. refl) h
+label_placed : (pt : Point) (t : OneKernel) (l : Label) → Needs pt (Line.Label l) → Sane pt → Made t → After pt.kernel l t → Placed pt.kernel pt.view → Placed t (after_label pt.view l)
+label_placed pt t (Label.End p y) need sane made a h = placed_ends pt.kernel t pt.view (after_label pt.view (Label.End p y)) p (made_plain t p false made a.now) a refl need h
+label_placed pt t (Label.Served id) need sane made a h = served_placed pt t id need sane made a h
+label_placed pt t (Label.Created id p) need sane made a h = placed_born pt.kernel t pt.view (after_label pt.view (Label.Created id p)) p a refl h
+label_placed pt t (Label.Dropped id) need sane made a h = placed_same pt.kernel t pt.view (after_label pt.view (Label.Dropped id)) a (λ m q. label_known pt.view (Label.Dropped id) refl m q) h
+label_placed pt t any_ need sane made a h = placed_same pt.kernel t pt.view (after_label pt.view any_) a (λ m q. refl) h
 
 none_same : (s t : OneKernel) → Some s ≡ Some t → Same s t
 none_same s t e q = let f : s ≡ t = cc in ap (λ (k : OneKernel). lives k q) (sym f)
@@ -244,18 +267,19 @@ away_back _ n e = cc
 line_placed : (pt : Point) (t : OneKernel) (l : Line) → Needs pt l → Sane pt → kernel_after pt.kernel (label_of l) ≡ Some t → Placed pt.kernel pt.view → Placed t (view_after pt.view l)
 line_placed pt t (Line.Head d) need sane e h = absurd need
 line_placed pt t (Line.Put a b i k q) need sane e h = absurd need
-line_placed pt t (Line.Label l) need sane e h = label_placed pt t l need sane (step_lives pt.kernel t l e) h
+line_placed pt t (Line.Label l) need sane e h = label_placed pt t l need sane (after_step sane.r sane.e pt.kernel t l e sane.sound).sound.made (step_lives pt.kernel t l e) h
 line_placed pt t (Line.Migration Stage.Frozen p) need sane e h = placed_learns pt.kernel t pt.view (view_after pt.view (Line.Migration Stage.Frozen p)) p (view.Frozen (aim pt.view pt.view.topic)) (none_same pt.kernel t e) (sets pt.view p pt.view.topic).known need refl h
 line_placed pt t (Line.Migration Stage.Accepted p) need sane e h = placed_learns pt.kernel t pt.view (view_after pt.view (Line.Migration Stage.Accepted p)) p (view.Incoming (front_of (pt.view.inbox pt.view.acting))) (none_same pt.kernel t e) refl need refl h
 line_placed pt t (Line.Migration Stage.Left p) need sane e h =
-    placed_goes pt.kernel t pt.view (view_after pt.view (Line.Migration Stage.Left p)) p (gone_to (pt.view.known pt.view.acting p) (pt.view.moves p + 1)) (none_same pt.kernel t e) refl (away_gone (pt.view.known pt.view.acting p) (pt.view.moves p + 1)) (λ alive. need) h
+    placed_goes pt.kernel t pt.view (view_after pt.view (Line.Migration Stage.Left p)) p (gone_to (pt.view.known pt.view.acting p) (pt.view.moves p + 1)) (none_same pt.kernel t e) refl (away_gone (pt.view.known pt.view.acting p) (pt.view.moves p + 1)) (λ alive. need) (λ server. need) h
 line_placed pt t (Line.Migration Stage.Restarted p) need sane e h = placed_learns pt.kernel t pt.view (view_after pt.view (Line.Migration Stage.Restarted p)) p Here (none_same pt.kernel t e) refl need refl h
 line_placed pt t (Line.Stays p) need sane e h = placed_learns pt.kernel t pt.view (view_after pt.view (Line.Stays p)) p Here (none_same pt.kernel t e) refl need refl h
 line_placed pt t (Line.Called p n) need sane e h =
-    placed_goes pt.kernel t pt.view (view_after pt.view (Line.Called p n)) p (goes_back (pt.view.known pt.view.acting p) (pt.view.moves p)) (none_same pt.kernel t e) refl (away_back (pt.view.known pt.view.acting p) (pt.view.moves p)) (λ alive. need) h
+    placed_goes pt.kernel t pt.view (view_after pt.view (Line.Called p n)) p (goes_back (pt.view.known pt.view.acting p) (pt.view.moves p)) (none_same pt.kernel t e) refl (away_back (pt.view.known pt.view.acting p) (pt.view.moves p)) (λ alive. need) (λ server. need) h
 line_placed pt t (Line.Buried id n) need sane e h =
     placed_goes pt.kernel t pt.view (view_after pt.view (Line.Buried id n)) need.p Unknown (none_same pt.kernel t e) (ap (λ (w : View). w.known) (buried_is pt.view id n need.u need.p need.told need.about)) (λ away. refl)
-    (λ alive. absurd (let f : Some false ≡ Some true = sym need.over ∙ alive in let g : false ≡ true = cc in false≢true g)) h
+    (λ alive. absurd (let f : Some false ≡ Some true = sym need.over ∙ alive in let g : false ≡ true = cc in false≢true g))
+    (λ server. absurd (false≢true (sym (made_plain pt.kernel need.p false sane.sound.made need.over) ∙ server))) h
 line_placed pt t (Line.Queued i) need sane e h = placed_same pt.kernel t pt.view (view_after pt.view (Line.Queued i)) (none_same pt.kernel t e) (λ m q. line_known pt.view (Line.Queued i) refl m q) h
 line_placed pt t (Line.Held i) need sane e h = placed_same pt.kernel t pt.view (view_after pt.view (Line.Held i)) (none_same pt.kernel t e) (λ m q. line_known pt.view (Line.Held i) refl m q) h
 line_placed pt t (Line.Forwarded i to) need sane e h = placed_same pt.kernel t pt.view (view_after pt.view (Line.Forwarded i to)) (none_same pt.kernel t e) (λ m q. line_known pt.view (Line.Forwarded i to) refl m q) h
@@ -272,13 +296,14 @@ ends_of : (pt : Point) → Placed pt.kernel pt.view → ((i : MsgId) (u : Told) 
 ends_of pt h buries = record {
   away = λ m p over. let (y, is) = over in h.away m p (ap life_of is);
   there = λ p x is. h.there p (ap life_of is);
+  servers = h.servers;
   buries = buries;
 }
 
 line_ends : (pt : Point) (t : OneKernel) (l : Line) → is_put l ≡ false → Needs pt l → Sane pt → kernel_after pt.kernel (label_of l) ≡ Some t → Ends pt → Ends (moved pt l t)
 line_ends pt t l quiet need sane e h =
     let p_ = line_placed pt t l need sane e (placed_of pt h) in
-    ends_of (moved pt l t) (record { away = p_.away; there = p_.there })
+    ends_of (moved pt l t) (record { away = p_.away; there = p_.there; servers = p_.servers })
     (λ i u p told bury about. ended_on pt t (label_of l) p sane e (h.buries i u p (sym (ap (λ (f : MsgId → Option Told). f i) (hushed pt.view l quiet).told) ∙ told) bury about))
 
 -- what stays as it was where the group began
@@ -361,6 +386,7 @@ put_ends : (pt : Point) (a b : ℕ) (i : MsgId) (k : MessageKind) (q : Pid) → 
 put_ends pt a b i k q tells h = record {
   away = h.away;
   there = h.there;
+  servers = h.servers;
   buries = λ j u p told bury about. elim (cases_Bool (id_eq i j)) [
     | inl same ↦
         let is : i ≡ j = id_eq-is i j same in
@@ -407,7 +433,7 @@ record Along (o pt : Point) : Type 0 where
   same : SameAs o pt
 
 along_packet : (o x : Point) (a b n : ℕ) (l : Load) → Along o x → Along o (moved x (Line.Packet a b n l) x.kernel)
-along_packet o x a b n l h = record { ends = let e = h.ends in record { away = e.away; there = e.there; buries = e.buries }; same = let s = h.same in record { acting = s.acting; known = s.known; lives_ = s.lives_; kept = s.kept } }
+along_packet o x a b n l h = record { ends = let e = h.ends in record { away = e.away; there = e.there; servers = e.servers; buries = e.buries }; same = let s = h.same in record { acting = s.acting; known = s.known; lives_ = s.lives_; kept = s.kept } }
 
 along_put : (o pt : Point) (b : ℕ) (i : MsgId) (k : MessageKind) (q : Pid) → Tells pt i k → Along o pt → Along o (moved pt (Line.Put pt.view.acting b i k q) pt.kernel)
 along_put o pt b i k q tells h = record {
@@ -461,7 +487,7 @@ record Over (p : Pid) (pt : Point) : Type 0 where
   over : IsEnded pt.kernel p
 
 over_packet : (p : Pid) (x : Point) (a b n : ℕ) (l : Load) → Over p x → Over p (moved x (Line.Packet a b n l) x.kernel)
-over_packet p x a b n l h = record { ends = let e = h.ends in record { away = e.away; there = e.there; buries = e.buries }; topic = h.topic; over = h.over }
+over_packet p x a b n l h = record { ends = let e = h.ends in record { away = e.away; there = e.there; servers = e.servers; buries = e.buries }; topic = h.topic; over = h.over }
 
 tail_part : (y : Pid) (pt next : Point) (p : Part) (ls : List Line) → Tail p → Sane pt → lines_of pt p ≡ Some ls → after pt ls ≡ Some next → Over y pt → Over y next
 tail_part y pt next (Says (Line.Label (Label.Dropped i))) ls tail sane is leads h = one_line (Over y) pt next (Line.Label (Label.Dropped i)) ls (λ s step_. record {

@@ -1,8 +1,11 @@
 -- Each group keeps where processes are that have ended and that live, and tells kernels to forget only what has ended.
 use Rattle.dm_rule.proofs.Names.{◌≡◌, ℕ, ◌==◌, ◌&&◌, Bool, true, false, List, [], ◌∷◌, ◌++◌, refl, ap, ◌∙◌, sym, subst, inl, inr, if◌then◌else◌, Option, None, Some, false≢true, false_from_ne_true, eqb-true, both_true, Pid, pid_eq}
 use Rattle.dm_rule.proofs.Names.{pid_eq-is, cases_Bool, MsgId, MessageKind, Stage, Step, Line, plain_kind, PlainMessage, PlainProcess, Alive, Boot, BootProcess, IsValid, first_life, life_at, known_at, manager, BootImage, begun, map}
-use Rattle.dm_rule.proofs.Names.{plain_link, option_map, slice_get, OneKernel, View, Told, Of, Here, Incoming, Addresses, is_away, is_here, receiver_in, Phase, Rests, Moves, knows, IsIn, is_between, sort_of, pulls_piece, Point, first_point}
-use Rattle.dm_rule.proofs.Names.{moved, after_head, Part, Says, Transmits, Spelled, forwards_on, sends_on, to_kernel, preds_of, ends_with, group_of, Inbox, alive-is}
+use Rattle.dm_rule.proofs.Names.{plain_link, option_map, slice_get, View, Told, Of, Here, Incoming, Addresses, is_away, is_here, receiver_in, Phase, Rests, Moves, knows, IsIn, is_between, sort_of, pulls_piece, Point, first_point}
+use Rattle.dm_rule.proofs.Names.{moved, after_head, Part, Says, Transmits, Spelled, forwards_on, sends_on, to_kernel, preds_of, ends_with, group_of, Inbox, Size, size_of, switchboard, Life, is_some, nat_le, nat_tests, arith}
+use Rattle.dm_rule.proofs.Names.{Known, Unknown, is_server}
+use Rattle.dm_rule.specs.Migrating.{process_size}
+use Rattle.dm_rule.proofs.Sizes.{size_other}
 use Rattle.dm_onekernel.specs.Step as kernel
 use Rattle.dm_rule.specs.Rule as rule
 use Rattle.dm_rule.proofs.Groups.{IsNetLine, IsNet, group_is}
@@ -62,9 +65,15 @@ called_elsewhere v h p from comes off =
 tail_after : (o : Point) (m : ℕ) (p : Pid) → AllTail (ends_with o m p)
 tail_after o m p = ends_kept AllTail tt (λ i ps h. (tt, h)) (λ to ps h. (tt, h)) o m p
 
--- what lives hasn't ended
-alive_lasts : (s : OneKernel) (p : Pid) (x : PlainProcess) → kernel.alive (s.processes p) ≡ Some x → lives s p ≡ Some false → ⊥
-alive_lasts s p x alive over = let f : Some true ≡ Some false = sym (ap life_of (alive-is (s.processes p) x alive)) ∙ over in let g : true ≡ false = cc in false≢true (sym g)
+-- what has a size hasn't ended: it lives, or is a server
+sized_lasts : (pt : Point) (p : Pid) (x : Size) → Sane pt → size_of pt.kernel p ≡ Some x → lives pt.kernel p ≡ Some false → ⊥
+sized_lasts pt p x sane sized over =
+    let (y, ended) = life_ended (pt.kernel.processes p) over in
+    let least : nat_le 3 p.num ≡ true = sane.sound.made.least p (ap is_some ended) in
+    let board : pid_eq p switchboard ≡ false = grind (arith, nat_tests) in
+    let manages : pid_eq p manager ≡ false = grind (arith, nat_tests) in
+    let f : None ≡ Some x = sym (size_other pt.kernel p board manages ∙ ap (λ (l : Option Life). option_map process_size (kernel.alive l)) ended) ∙ sized in
+    cc
 
 -- nor has what is here
 here_lasts : (pt : Point) (p : Pid) (m : ℕ) → Ends pt → pt.view.known m p ≡ Here → lives pt.kernel p ≡ Some false → ⊥
@@ -132,9 +141,9 @@ handles_walks b pt m i msg t ps h sane ends there told =
     })
 
 -- a kernel's own message
-hears_walks : (b : Boot) (pt : Point) (m : ℕ) (i : MsgId) (is : List MsgId) (ps : List Part) → InPhases (moved pt (Line.Head (Step.Turn m)) pt.kernel).view → Ends pt → pt.view.inbox m ≡ i ∷ is → rule.hears b pt m i (pt.view.told i) ≡ Some ps
+hears_walks : (b : Boot) (pt : Point) (m : ℕ) (i : MsgId) (is : List MsgId) (ps : List Part) → InPhases (moved pt (Line.Head (Step.Turn m)) pt.kernel).view → Sane pt → Ends pt → pt.view.inbox m ≡ i ∷ is → rule.hears b pt m i (pt.view.told i) ≡ Some ps
     → Walks (moved pt (Line.Head (Step.Turn m)) pt.kernel) ps
-hears_walks b pt m i is ps h ends front =
+hears_walks b pt m i is ps h sane ends front =
     let o = moved pt (Line.Head (Step.Turn m)) pt.kernel in
     by_hears (Walks o) b pt m i (pt.view.told i) ps (λ t told. record {
       buried = λ p about kind. inr (
@@ -142,8 +151,8 @@ hears_walks b pt m i is ps h ends front =
         inr (tt, buries_kept AllTail tt (λ to qs k. (tt, k)) (preds_of pt m p)),
       );
       stale = λ p about late. inl (refl, tt);
-      told = λ p x about alive fresh.
-          (let lasts = alive_lasts pt.kernel p x alive in
+      told = λ p x about sized fresh.
+          (let lasts = sized_lasts pt p x sane sized in
           record {
             accepted = λ ask. inr (lasts, inl (refl, tt));
             lacks = λ slots blocks. inl (refl, inl (refl, tt));
@@ -152,6 +161,7 @@ hears_walks b pt m i is ps h ends front =
             state = inl (refl, inl (refl, tt));
             next_chunk = inl (refl, inl (refl, tt));
             last_chunk = inl (refl, inl (refl, tt));
+            server_chunk = λ server. inl (refl, inl (refl, inl (refl, tt)));
             memory = inl (refl, inl (refl, tt));
             next_block = inl (refl, inl (refl, tt));
             last_block = inl (refl, inl (refl, tt));
@@ -193,7 +203,7 @@ outcome_walks b pt d ps phases state sane rooted ends =
     by_outcome (λ (e : Step) (qs : List Part). Walks (moved pt (Line.Head e) pt.kernel) qs) b pt d ps (record {
       round = λ m qs box e. round_walks b pt m (rule.first_runnable pt.kernel (pt.view.queue m) (pt.view.ring m)) qs (turns m) (λ p is. rooted.served m p is) e;
       handles = λ m i is msg qs box there e. (let (t, told) = standing_told pt (Inbox m) i state (front_one pt.view m i is box) in handles_walks b pt m i msg t qs (turns m) sane ends there told e);
-      hears = λ m i is qs box there e. hears_walks b pt m i is qs (turns m) ends box e;
+      hears = λ m i is qs box there e. hears_walks b pt m i is qs (turns m) sane ends box e;
       ticks = λ m qs net. net_walks (moved pt (Line.Head (Step.Tick m)) pt.kernel) qs net;
       delivers = λ a c k qs net. net_walks (moved pt (Line.Head (Step.Deliver a c k)) pt.kernel) qs net;
       asks = λ p m. by_migrates (Walks (moved pt (Line.Head (Step.Migrate p m)) pt.kernel)) pt p (inl (refl, tt)) (inl (refl, tt)) (λ n off is. inl (refl, tt));
@@ -208,11 +218,11 @@ ends_group b pt d w e phases state sane rooted h =
     let g = group_is b pt d w e in
     let start = moved pt (Line.Head d) pt.kernel in
     let begun : Ends start = elim d as (λ x. Ends (moved pt (Line.Head x) pt.kernel)) [
-      | Step.Turn m ↦ record { away = h.away; there = h.there; buries = h.buries }
-      | Step.Tick m ↦ record { away = h.away; there = h.there; buries = h.buries }
-      | Step.Deliver a c k ↦ record { away = h.away; there = h.there; buries = h.buries }
-      | Step.Migrate p m ↦ record { away = h.away; there = h.there; buries = h.buries }
-      | Step.CallOff p m ↦ record { away = h.away; there = h.there; buries = h.buries }
+      | Step.Turn m ↦ record { away = h.away; there = h.there; servers = h.servers; buries = h.buries }
+      | Step.Tick m ↦ record { away = h.away; there = h.there; servers = h.servers; buries = h.buries }
+      | Step.Deliver a c k ↦ record { away = h.away; there = h.there; servers = h.servers; buries = h.buries }
+      | Step.Migrate p m ↦ record { away = h.away; there = h.there; servers = h.servers; buries = h.buries }
+      | Step.CallOff p m ↦ record { away = h.away; there = h.there; servers = h.servers; buries = h.buries }
     ] in
     subst Ends g.point (walks_ends g.parts start start g.rest (outcome_walks b pt d g.parts phases state sane rooted h g.is) (sane_line pt start (Line.Head d) refl refl sane) begun (same_self start) g.said)
 
@@ -239,9 +249,19 @@ first_there b (p ∷ ps) q x e = elim (cases_Bool (pid_eq p.pid q)) [
       ∙ first_there b ps q x (sym (ap (λ (c : Bool). if c then first_life b p else life_at b ps q) off) ∙ e)
 ]
 
+-- a server on the first machine
+here_or : (c : Bool) (k : Known) → is_away k ≡ false → is_away (if c then Here else k) ≡ false
+here_or true k e = refl
+here_or false k e = e
+
+first_server : (ps : List BootProcess) (q : Pid) → is_server q ≡ true → is_away (known_at ps 0 q) ≡ false
+first_server [] q server = ap (λ (c : Bool). is_away (if c then Here else Unknown)) (both_true (0 == 0) (is_server q) (eq_self 0) server)
+first_server (p ∷ ps) q server = here_or (pid_eq p.pid q && (p.pid.home == 0)) (known_at ps 0 q) (first_server ps q server)
+
 pub ends_start : (b : Boot) → IsValid b → Ends (first_point b)
 ends_start b valid = record {
   away = λ m p over. let (y, is) = over in absurd (none_ended b b.processes p (ap life_of is));
   there = λ p x is. (p.home, first_there b b.processes p x is);
+  servers = λ p server. (0, first_server b.processes p server);
   buries = λ i t p told bury about. cc;
 }

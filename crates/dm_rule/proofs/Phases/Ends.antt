@@ -1,6 +1,6 @@
 -- Processes that have ended, and those that live: on which machines they are; and that kernels are told to forget only what has ended.
 use Rattle.dm_rule.proofs.Names.{◌≡◌, ℕ, ◌==◌, Bool, true, false, refl, ap, ◌∙◌, sym, inl, inr, if◌then◌else◌, Option, Some, cases_Bool, false≢true, Pid, MsgId, MessageKind, Why, PlainProcess, Alive, OneKernel, View, Told, Of, Known}
-use Rattle.dm_rule.proofs.Names.{Unknown, Here, Point, is_away, is_here, is_unknown, is_restart, is_early, is_calloff, Phase, Nowhere, Rests, Over, Moves, knows, IsIn, Ended}
+use Rattle.dm_rule.proofs.Names.{Unknown, Here, Point, is_away, is_here, is_unknown, is_restart, is_early, is_calloff, is_server, Phase, Nowhere, Rests, Over, Moves, knows, IsIn, Ended}
 use Rattle.dm_rule.proofs.Lines.{eq_self}
 use Rattle.dm_rule.proofs.Trails.Steps.{source_holds, destination_expects}
 
@@ -13,6 +13,8 @@ pub record Ends (pt : Point) : Type 0 where
   pub away : (m : ℕ) (p : Pid) → IsEnded pt.kernel p → is_away (pt.view.known m p) ≡ true
   -- what lives is here on one, leaves it or comes to it
   pub there : (p : Pid) (x : PlainProcess) → pt.kernel.processes p ≡ Some (Alive x) → (m : ℕ) × (is_away (pt.view.known m p) ≡ false)
+  -- and so is a server
+  pub servers : (p : Pid) → is_server p ≡ true → (m : ℕ) × (is_away (pt.view.known m p) ≡ false)
   -- and what a kernel is told to forget has ended
   pub buries : (i : MsgId) (t : Told) (p : Pid) → pt.view.told i ≡ Some t → t.kind ≡ MessageKind.Bury → t.about ≡ Of p → IsEnded pt.kernel p
 
@@ -72,7 +74,7 @@ over_away : (x : Known) (c : Bool) → (if c then is_unknown x else is_away x) �
 over_away x true e = unknown_away x e
 over_away x false e = e
 
-gone_known : (phase : Phase) (m : ℕ) (x : Known) → is_gone phase ≡ true → knows phase m x ≡ true → is_away x ≡ true
+pub gone_known : (phase : Phase) (m : ℕ) (x : Known) → is_gone phase ≡ true → knows phase m x ≡ true → is_away x ≡ true
 gone_known Nowhere m x gone e = unknown_away x e
 gone_known (Rests at) m x gone e = cc
 gone_known (Over at) m x gone e = over_away x (at == m) e
@@ -81,5 +83,11 @@ gone_known (Moves k s d o) m x gone e = cc
 pub living_on : (pt : Point) (p : Pid) (x : PlainProcess) (phase : Phase) → Ends pt → pt.kernel.processes p ≡ Some (Alive x) → IsIn pt.view p phase → is_gone phase ≡ false
 living_on pt p x phase h alive is = elim (cases_Bool (is_gone phase)) [
   | inl gone ↦ let (m, on) = h.there p x alive in absurd (false≢true (sym on ∙ gone_known phase m (pt.view.known m p) gone (is.known m)))
+  | inr off ↦ off
+]
+
+pub server_on : (pt : Point) (p : Pid) (phase : Phase) → Ends pt → is_server p ≡ true → IsIn pt.view p phase → is_gone phase ≡ false
+server_on pt p phase h server is = elim (cases_Bool (is_gone phase)) [
+  | inl gone ↦ let (m, on) = h.servers p server in absurd (false≢true (sym on ∙ gone_known phase m (pt.view.known m p) gone (is.known m)))
   | inr off ↦ off
 ]

@@ -39,7 +39,7 @@ comes_row : (b : Boot) (pt : Point) (m : ℕ) (i : MsgId) (is : List MsgId) (o :
 comes_row b pt m i is None parts w h state sane fits rooted ranked ends front there e n =
     let f = turn_fit pt m h sane fits in
     let whole : Whole (turned pt m) = record { state = begun pt (Step.Turn m) state (λ z. turn_off pt.view m z) (λ i. refl); fits = f.fits; phases = f.phases } in
-    (phases_hears b pt (turned pt m) m i is (pt.view.told i) parts w whole f.sane (ranked_head pt.view (Step.Turn m) ranked) (record { away = ends.away; there = ends.there; buries = ends.buries }) front there refl
+    (phases_hears b pt (turned pt m) m i is (pt.view.told i) parts w whole f.sane (ranked_head pt.view (Step.Turn m) ranked) (record { away = ends.away; there = ends.there; servers = ends.servers; buries = ends.buries }) front there refl
     (record { same = record { kernel = refl; queue = λ q. refl; held = λ q. refl }; acting = refl; known = λ q. refl; topic = refl }) e n).phases
 comes_row b pt m i is (Some msg) parts w h state sane fits rooted ranked ends front there e n =
     let begun_ = begun pt (Step.Turn m) state (λ z. turn_off pt.view m z) (λ i. refl) in

@@ -1,9 +1,8 @@
 -- A kernel's own message is handled: each process stays in a phase.
-use Rattle.dm_rule.proofs.Names.{◌≡◌, ℕ, ◌==◌, Bool, true, false, List, [], ◌∷◌, ◌++◌, refl, ap, ◌∙◌, sym, subst, length, ◌/◌, if◌then◌else◌, Option, None, Some, false≢true, Pid, pid_eq, MsgId, MessageKind, Line, Stage, Boot, switchboard}
-use Rattle.dm_rule.proofs.Names.{manager, PlainProcess, View, Told, About, Of, Known, Unknown, Here, Forward, is_kernels, target_of, Addresses, Sender, is_told_back, Point, Part, Says, Owns, Spelled, spelled, forwards_on, accepts}
-use Rattle.dm_rule.proofs.Names.{takes_chunk, takes_block, gives_piece, told_step, chunks_of, pieces_of, updates, told_here, told_ended, process_told, told_server, fits, free_room, kernel_hears, hears, is_between, bind-is, Label, MoveNote}
+use Rattle.dm_rule.proofs.Names.{◌≡◌, ℕ, ◌==◌, Bool, true, false, List, [], ◌∷◌, ◌++◌, refl, ap, ◌∙◌, sym, subst, length, if◌then◌else◌, Option, None, Some, false≢true, Pid, MsgId, MessageKind, Line, Stage, Boot}
+use Rattle.dm_rule.proofs.Names.{manager, Size, size_of, View, Told, About, Of, Known, Unknown, Here, Forward, is_kernels, target_of, Addresses, Sender, is_told_back, Point, Part, Says, Owns, Spelled, spelled, forwards_on, accepts}
+use Rattle.dm_rule.proofs.Names.{takes_chunk, takes_block, gives_piece, told_step, chunks_of, pieces_of, updates, told_here, told_ended, process_told, fits, free_room, kernel_hears, hears, is_between, bind-is, Label, MoveNote}
 use Rattle.dm_rule.proofs.Names.{NothingElse, Outcome, bind, kernel_after, label_of, leaves_for, moved, tells_asker, sort_of, eq-eqb, is_stale, is_waited_from, pulls_piece, brings_piece, inl, inr, not, ◌&&◌, buried, buries, preds_of, tells_end}
-use Rattle.dm_onekernel.specs.Step as kernel
 use Rattle.dm_rule.proofs.Hushed.{is_put}
 use Rattle.dm_rule.proofs.States.{State, State-at}
 use Rattle.dm_rule.proofs.Moves.Sent.{line_next}
@@ -61,7 +60,7 @@ ends_row pt l q r w none quiet h sane state e =
     subst Whole n.point (quiet_row (tells_asker q r) next n.rest h sane_ (State-at None w.point n.rest.point (sym n.point) state) (elim q as (λ q_. AllQuiet next.view (tells_asker q_ r)) [ None ↦ tt | Some n' ↦ (tt, (tt, tt)) ]) n.more)
 
 -- a message of the protocol, by its kind
-told_row : (o pt : Point) (m : ℕ) (i : MsgId) (is : List MsgId) (t : Told) (p : Pid) (room : Bool × ℕ × ℕ) (x : PlainProcess) (k : MessageKind) (parts : List Part) (w : Spelled) (h : Whole pt) → Sane pt → State None w.point
+told_row : (o pt : Point) (m : ℕ) (i : MsgId) (is : List MsgId) (t : Told) (p : Pid) (room : Bool × ℕ × ℕ) (x : Size) (k : MessageKind) (parts : List Part) (w : Spelled) (h : Whole pt) → Sane pt → State None w.point
     → pt.view.inbox pt.view.acting ≡ i ∷ is → pt.view.told i ≡ Some t → is_kernels i ≡ true → SeesAll o pt m → Ranked pt.view → is_stale pt pt.view.acting i t.kind p ≡ false
     → t.kind ≡ k → t.about ≡ Of p → told_step o m i p room x (sort_of k) ≡ Some parts → spelled pt parts ≡ Some w → Whole w.point
 told_row o pt m i is t p room x MessageKind.Ask parts w h sane state front told mine sees ranked fresh e about g n =
@@ -144,20 +143,10 @@ ended_row pt i t MessageKind.Migrate parts w h sane state tame g n = one_quiet p
 ended_row pt i t MessageKind.Update parts w h sane state tame g n = one_quiet pt (Says (Line.Updated i 0) ∷ []) parts w h sane state (tame, tt) g n
 ended_row pt i t _ parts w h sane state tame g n = cc
 
-server_row : (o pt : Point) (i : MsgId) (t : Told) (k : MessageKind) (parts : List Part) (w : Spelled) (h : Whole pt) → Sane pt → State None w.point → Tame pt.view i → told_server o i t (sort_of k) ≡ Some parts → spelled pt parts ≡ Some w → Whole w.point
-server_row o pt i t MessageKind.Update parts w h sane state tame g n = one_quiet pt (updates o i t) parts w h sane state (tame, tt) g n
-server_row o pt i t _ parts w h sane state tame g n = cc
-
-own_row : (o pt : Point) (m : ℕ) (i : MsgId) (is : List MsgId) (t : Told) (d g : Bool) (parts : List Part) (w : Spelled) (h : Whole pt) → Sane pt → State None w.point → is_between t.kind ≡ false → pt.view.inbox pt.view.acting ≡ i ∷ is → pt.view.told i ≡ Some t → is_kernels i ≡ true → SeesAll o pt m
-    → pt.view.known pt.view.acting t.receiver ≡ Here → (if d then told_server o i t (sort_of t.kind) else if g then told_server o i t (sort_of t.kind) else told_here o m i t (sort_of t.kind)) ≡ Some parts → spelled pt parts ≡ Some w → Whole w.point
-own_row o pt m i is t true g parts w h sane state plain front told mine sees here e n = server_row o pt i t t.kind parts w h sane state (tame_of pt.view i t told plain) e n
-own_row o pt m i is t false true parts w h sane state plain front told mine sees here e n = server_row o pt i t t.kind parts w h sane state (tame_of pt.view i t told plain) e n
-own_row o pt m i is t false false parts w h sane state plain front told mine sees here e n = here_row o pt m i is t t.kind parts w h sane state plain front told mine sees here e n
-
 process_row : (o pt : Point) (m : ℕ) (i : MsgId) (is : List MsgId) (t : Told) (k : Known) (parts : List Part) (w : Spelled) (h : Whole pt) → Sane pt → State None w.point → is_between t.kind ≡ false → pt.view.inbox pt.view.acting ≡ i ∷ is → pt.view.told i ≡ Some t → is_kernels i ≡ true → SeesAll o pt m
     → pt.view.known pt.view.acting t.receiver ≡ k → process_told o m i t k ≡ Some parts → spelled pt parts ≡ Some w → Whole w.point
 process_row o pt m i is t Unknown parts w h sane state plain front told mine sees here g n = ended_row pt i t t.kind parts w h sane state (tame_of pt.view i t told plain) g n
-process_row o pt m i is t Here parts w h sane state plain front told mine sees here g n = own_row o pt m i is t (pid_eq t.receiver switchboard) (pid_eq t.receiver manager) parts w h sane state plain front told mine sees here g n
+process_row o pt m i is t Here parts w h sane state plain front told mine sees here g n = here_row o pt m i is t t.kind parts w h sane state plain front told mine sees here g n
 process_row o pt m i is t (Forward at moves) parts w h sane state plain front told mine sees here g n =
     one_quiet pt (forwards_on o.addresses i t.kind manager at) parts w h sane state (forwards_quiet pt.view o.addresses i t.kind manager at (tame_of pt.view i t told plain)) g n
 process_row o pt m i is t _ parts w h sane state plain front told mine sees here g n = one_quiet pt (Says (Line.Held i) ∷ []) parts w h sane state (tame_of pt.view i t told plain, tt) g n
@@ -172,11 +161,11 @@ stale_row pt i is t p w h front told mine about stale e =
 
 stale_by : (b : Boot) (o pt : Point) (m : ℕ) (i : MsgId) (is : List MsgId) (t : Told) (p : Pid) (stale : Bool) (parts : List Part) (w : Spelled) (h : Whole pt) → Sane pt → State None w.point → pt.view.inbox pt.view.acting ≡ i ∷ is
     → pt.view.told i ≡ Some t → is_kernels i ≡ true → SeesAll o pt m → Ranked pt.view → t.about ≡ Of p → is_stale pt pt.view.acting i t.kind p ≡ stale
-    → (if stale then Some (Says (Line.Stale i) ∷ []) else bind (kernel.alive (o.kernel.processes p)) (λ x. told_step o m i p (fits (free_room b o m) (length x.memory / 256)) x (sort_of t.kind))) ≡ Some parts → spelled pt parts ≡ Some w → Whole w.point
+    → (if stale then Some (Says (Line.Stale i) ∷ []) else bind (size_of o.kernel p) (λ x. told_step o m i p (fits (free_room b o m) x.blocks) x (sort_of t.kind))) ≡ Some parts → spelled pt parts ≡ Some w → Whole w.point
 stale_by b o pt m i is t p true parts w h sane state front told mine sees ranked about stale g n = stale_row pt i is t p w h front told mine about stale (given pt (Says (Line.Stale i) ∷ []) parts w g n)
 stale_by b o pt m i is t p false parts w h sane state front told mine sees ranked about fresh g n =
-    let (x, there, last) = bind-is (kernel.alive (o.kernel.processes p)) (λ x. told_step o m i p (fits (free_room b o m) (length x.memory / 256)) x (sort_of t.kind)) parts g in
-    told_row o pt m i is t p (fits (free_room b o m) (length x.memory / 256)) x t.kind parts w h sane state front told mine sees ranked fresh refl about last n
+    let (x, there, last) = bind-is (size_of o.kernel p) (λ x. told_step o m i p (fits (free_room b o m) x.blocks) x (sort_of t.kind)) parts g in
+    told_row o pt m i is t p (fits (free_room b o m) x.blocks) x t.kind parts w h sane state front told mine sees ranked fresh refl about last n
 
 pub buries_quiet : (v : View) (o : Point) (m : ℕ) (p : Pid) → AllQuiet v (buries o m p)
 buries_quiet v o m p = buries_kept (AllQuiet v) tt (λ to ps h. (refl, h)) (preds_of o m p)
@@ -195,7 +184,7 @@ buried_row o pt m i t p w h sane state ends plain told bury about e =
 
 over_by : (b : Boot) (o pt : Point) (m : ℕ) (i : MsgId) (is : List MsgId) (t : Told) (p : Pid) (over : Bool) (parts : List Part) (w : Spelled) (h : Whole pt) → Sane pt → State None w.point → pt.view.inbox pt.view.acting ≡ i ∷ is
     → pt.view.told i ≡ Some t → is_kernels i ≡ true → SeesAll o pt m → Ranked pt.view → Ends pt → t.about ≡ Of p → tells_end (sort_of t.kind) ≡ over
-    → (if over then Some (buried o m i p) else if is_stale o m i t.kind p then Some (Says (Line.Stale i) ∷ []) else bind (kernel.alive (o.kernel.processes p)) (λ x. told_step o m i p (fits (free_room b o m) (length x.memory / 256)) x (sort_of t.kind))) ≡ Some parts
+    → (if over then Some (buried o m i p) else if is_stale o m i t.kind p then Some (Says (Line.Stale i) ∷ []) else bind (size_of o.kernel p) (λ x. told_step o m i p (fits (free_room b o m) x.blocks) x (sort_of t.kind))) ≡ Some parts
     → spelled pt parts ≡ Some w → Whole w.point
 over_by b o pt m i is t p true parts w h sane state front told mine sees ranked ends about over g n =
     let bury = bury_is t.kind over in

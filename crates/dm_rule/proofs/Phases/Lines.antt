@@ -41,7 +41,7 @@ come_queued : (v : View) (i : MsgId) (o : Option Pid) → ((queued_for v i o).co
 come_queued v i None = (refl, refl, refl)
 come_queued v i (Some p) = (refl, refl, refl)
 
-come_sets : (v : View) (p : Pid) (a : About) → (view.sets_off v p a).come ≡ v.come
+pub come_sets : (v : View) (p : Pid) (a : About) → (view.sets_off v p a).come ≡ v.come
 come_sets v p (Target m) = refl
 come_sets v p _ = refl
 

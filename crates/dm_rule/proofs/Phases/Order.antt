@@ -211,6 +211,7 @@ heard_orderly o m i t tame listed =
         state = (tt, (tt, tt));
         next_chunk = (tt, (tt, tt));
         last_chunk = (tt, (tt, tt));
+        server_chunk = λ server. (tt, (tt, (tt, tt)));
         memory = (tt, (tt, tt));
         next_block = (tt, (tt, tt));
         last_block = (tt, (tt, tt));

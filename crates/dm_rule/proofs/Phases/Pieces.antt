@@ -2,16 +2,19 @@
 use Rattle.dm_rule.proofs.Names.{◌≡◌, ℕ, ◌==◌, ◌&&◌, Bool, true, false, not, List, [], ◌∷◌, refl, ap, ◌∙◌, sym, subst, arith, if◌then◌else◌, Option, None, Some, Pid, pid_eq, MsgId, MessageKind, Line, Stage, at_record, View, Told, About}
 use Rattle.dm_rule.proofs.Names.{NothingElse, Known, Incoming, view_after, handled, front_of, after_proto, asks_on, is_kernels, Point, Says, Spelled, spelled, to_kernel, accepts, takes_chunk, takes_block, gives_piece, Spot, ids_at}
 use Rattle.dm_rule.proofs.Names.{is_between, is_apart, is_restart, is_early, kind_comes, is_away, Phase, Moves, knows, sender_in, receiver_in, pid_eq-same, right_true, kind_leaves, and_right, not-true, ◌<◌, ◌||◌, inl, inr, cases_Bool}
-use Rattle.dm_rule.proofs.Names.{false≢true, pid_of, sort_of, standing, Inbox, Forward, Unknown, handled_first, moved, eqb-true, both_true, IsLeft, IsWay, Asks, Comes, ComesIn, HasCome, tells_come, is_calloff, pulls_piece, brings_piece}
+use Rattle.dm_rule.proofs.Names.{false≢true, pid_of, sort_of, standing, Inbox, Forward, Unknown, handled_first, moved, eqb-true, both_true, IsLeft, IsWay, Asks, Comes, ComesIn, HasCome, tells_come, is_calloff, pulls_piece, brings_piece, is_server}
 use Rattle.dm_rule.proofs.Moves.Lists.{first_off}
-use Rattle.dm_rule.proofs.Moves.Rows.{goes_first, goes_front, accepted_off, state_off, memory_off, lacks_off, proto_off}
+use Rattle.dm_rule.proofs.Moves.Rows.{goes_first, goes_front, accepted_off, state_off, server_off, server_front, server_state, memory_off, lacks_off, proto_off}
+use Rattle.dm_rule.proofs.Pairs.Lines.{pair_same}
+use Rattle.dm_rule.proofs.Said.{fits_as}
+use Rattle.dm_rule.proofs.Phases.Quiet.{moves_none}
 use Rattle.dm_rule.proofs.Phases.Stand.{InPhases}
 use Rattle.dm_rule.proofs.Phases.Answers.{Whole, Due, answer_row}
 use Rattle.dm_rule.proofs.Lines.{eq_self}
 use Rattle.dm_rule.proofs.Moves.States.{front_one}
 use Rattle.dm_rule.proofs.Moves.Sent.{line_next}
 use Rattle.dm_rule.proofs.Phases.Calm.{left_on}
-use Rattle.dm_rule.proofs.Phases.Stand.{LeavesOver, calls_in, never_called, none_first, never_both, came_from}
+use Rattle.dm_rule.proofs.Phases.Stand.{LeavesOver, calm_phases, piece_ways, calls_in, never_called, none_first, never_both, came_from}
 use Rattle.dm_rule.proofs.Phases.Answers.{Remains, answer_left, front_gone, token_one, inbox_is, remains_whole, left_whole}
 use Rattle.dm_rule.proofs.Phases.Lines.{proto_knows}
 use Rattle.dm_rule.proofs.Phases.Ranked.{Ranked}
@@ -159,27 +162,59 @@ pub pull_block_row : (pt : Point) (i : MsgId) (is : List MsgId) (t : Told) (w : 
 pull_block_row pt i is t w h u e front told mine is_ =
     proto_row pt i is t MessageKind.Memory w h u (ap is_calloff e) (ap is_restart e) (ap is_early e) (ap is_calloff e) (ap (λ (k : MessageKind). tells_come (sort_of k)) e) (ap (λ (k : MessageKind). receiver_in k u.s u.d) e) (ap (λ (k : MessageKind). sender_in k u.s u.d) e) refl front told mine is_
 
-pub chunk_row : (pt : Point) (i : MsgId) (is : List MsgId) (t : Told) (last : Bool) (w : Spelled) (h : Whole pt) (u : Due pt i t h.phases) → u.k ≡ MessageKind.State → pt.view.inbox pt.view.acting ≡ i ∷ is → pt.view.told i ≡ Some t → is_kernels i ≡ true
-    → spelled pt (takes_chunk i u.p last) ≡ Some w → Whole w.point
-chunk_row pt i is t true w h u e front told mine is_ =
+-- a piece is no request, no end, and calls nothing off
+piece_plain : (k : MessageKind) → brings_piece (sort_of k) ≡ true → (is_restart k ≡ false) × (is_early k ≡ false) × (is_calloff k ≡ false)
+piece_plain MessageKind.State e = (refl, refl, refl)
+piece_plain MessageKind.Memory e = (refl, refl, refl)
+piece_plain _ e = absurd (false≢true e)
+
+-- with the last piece all is taken
+all_taken_row : (pt : Point) (i : MsgId) (is : List MsgId) (t : Told) (w : Spelled) (h : Whole pt) (u : Due pt i t h.phases) → brings_piece (sort_of u.k) ≡ true → pt.view.inbox pt.view.acting ≡ i ∷ is → pt.view.told i ≡ Some t → is_kernels i ≡ true
+    → spelled pt (Says (Line.Migration Stage.MemoryTaken u.p) ∷ to_kernel MessageKind.AllTaken i.from.home ∷ []) ≡ Some w → Whole w.point
+all_taken_row pt i is t w h u brings front told mine is_ =
+    let l = Line.Migration Stage.MemoryTaken u.p in
+    let plain = piece_plain u.k brings in
+    let ends = piece_ways u.k u.s u.d brings in
+    answer_row pt l i is t MessageKind.AllTaken i.from.home w h u refl refl refl front told (goes_first pt l i is refl h.state front mine (λ z. memory_off pt.view u.p z)) (λ z. memory_off pt.view u.p z)
+    (λ m q off. refl) (same_row pt i t h.phases u MessageKind.AllTaken (view_after pt.view l) (λ m. refl) plain.0 plain.1 plain.2)
+    (λ q off. ap (λ (c : Bool). if c then true else pt.view.come q) off) (ap (λ (c : Bool). if c then true else pt.view.come u.p) (pid_eq-same u.p))
+    (answer_left pt l i is t h u (Moves MessageKind.AllTaken u.s u.d None) refl plain.2 refl front (λ z. memory_off pt.view u.p z) (λ m s here. here)) refl refl refl
+    ends.1 (to_sender pt i t h.phases u ∙ ends.0) is_
+
+-- the last chunk of a server: step 4 leaves its phase as it is, and step 5 follows
+server_row : (pt : Point) (i : MsgId) (is : List MsgId) (t : Told) (w : Spelled) (h : Whole pt) (u : Due pt i t h.phases) → u.k ≡ MessageKind.State → is_server u.p ≡ true → pt.view.inbox pt.view.acting ≡ i ∷ is → pt.view.told i ≡ Some t → is_kernels i ≡ true
+    → spelled pt (Says (Line.Migration Stage.StateTaken u.p) ∷ Says (Line.Migration Stage.MemoryTaken u.p) ∷ to_kernel MessageKind.AllTaken i.from.home ∷ []) ≡ Some w → Whole w.point
+server_row pt i is t w h u e server front told mine is_ =
+    let v = pt.view in
     let l = Line.Migration Stage.StateTaken u.p in
-    answer_row pt l i is t MessageKind.PullBlock i.from.home w h u refl refl refl front told (goes_first pt l i is refl h.state front mine (λ z. state_off pt.view u.p z)) (λ z. state_off pt.view u.p z)
+    let next = moved pt l pt.kernel in
+    let n = line_next pt l (Says (Line.Migration Stage.MemoryTaken u.p) ∷ to_kernel MessageKind.AllTaken i.from.home ∷ []) w refl is_ in
+    let calm = moves_none v l refl refl (λ m q. refl) (λ z. server_off v u.p server z) in
+    let whole : Whole next = record { state = server_state pt u.p server h.state; fits = fits_as v next.view (pair_same v l refl) h.fits; phases = calm_phases v next.view calm h.phases } in
+    let due : Due next i t whole.phases = record { p = u.p; k = u.k; s = u.s; d = u.d; phase = u.phase; told = u.told; acting = u.acting; from = u.from } in
+    subst Whole n.point (all_taken_row next i is t n.rest whole due (ap (λ (k : MessageKind). brings_piece (sort_of k)) e) (server_front v u.p i is server front) told mine n.more)
+
+last_row : (pt : Point) (i : MsgId) (is : List MsgId) (t : Told) (server : Bool) (w : Spelled) (h : Whole pt) (u : Due pt i t h.phases) → u.k ≡ MessageKind.State → is_server u.p ≡ server → pt.view.inbox pt.view.acting ≡ i ∷ is → pt.view.told i ≡ Some t → is_kernels i ≡ true
+    → spelled pt (if server then Says (Line.Migration Stage.StateTaken u.p) ∷ Says (Line.Migration Stage.MemoryTaken u.p) ∷ to_kernel MessageKind.AllTaken i.from.home ∷ [] else Says (Line.Migration Stage.StateTaken u.p) ∷ to_kernel MessageKind.PullBlock i.from.home ∷ []) ≡ Some w
+    → Whole w.point
+last_row pt i is t true w h u e server front told mine is_ = server_row pt i is t w h u e server front told mine is_
+last_row pt i is t false w h u e process front told mine is_ =
+    let l = Line.Migration Stage.StateTaken u.p in
+    answer_row pt l i is t MessageKind.PullBlock i.from.home w h u refl refl refl front told (goes_first pt l i is refl h.state front mine (λ z. state_off pt.view u.p process z)) (λ z. state_off pt.view u.p process z)
     (λ m q off. refl) (same_row pt i t h.phases u MessageKind.PullBlock (view_after pt.view l) (λ m. refl) (ap is_restart e) (ap is_early e) (ap is_calloff e)) (λ q off. refl)
     (same_come pt i t h.phases u MessageKind.PullBlock (view_after pt.view l) refl (ap (λ (k : MessageKind). tells_come (sort_of k)) e))
-    (answer_left pt l i is t h u (Moves MessageKind.PullBlock u.s u.d None) refl (ap is_calloff e) refl front (λ z. state_off pt.view u.p z) (λ m s here. here)) refl refl refl
+    (answer_left pt l i is t h u (Moves MessageKind.PullBlock u.s u.d None) refl (ap is_calloff e) refl front (λ z. state_off pt.view u.p process z) (λ m s here. here)) refl refl refl
     (ap (λ (k : MessageKind). receiver_in k u.s u.d) e) (to_sender pt i t h.phases u ∙ ap (λ (k : MessageKind). sender_in k u.s u.d) e) is_
+
+pub chunk_row : (pt : Point) (i : MsgId) (is : List MsgId) (t : Told) (last : Bool) (w : Spelled) (h : Whole pt) (u : Due pt i t h.phases) → u.k ≡ MessageKind.State → pt.view.inbox pt.view.acting ≡ i ∷ is → pt.view.told i ≡ Some t → is_kernels i ≡ true
+    → spelled pt (takes_chunk i u.p last) ≡ Some w → Whole w.point
+chunk_row pt i is t true w h u e front told mine is_ = last_row pt i is t (is_server u.p) w h u e refl front told mine is_
 chunk_row pt i is t false w h u e front told mine is_ =
     proto_row pt i is t MessageKind.PullState w h u (ap is_calloff e) (ap is_restart e) (ap is_early e) (ap is_calloff e) (ap (λ (k : MessageKind). tells_come (sort_of k)) e) (ap (λ (k : MessageKind). receiver_in k u.s u.d) e) (ap (λ (k : MessageKind). sender_in k u.s u.d) e) refl front told mine is_
 
 pub block_row : (pt : Point) (i : MsgId) (is : List MsgId) (t : Told) (last : Bool) (w : Spelled) (h : Whole pt) (u : Due pt i t h.phases) → u.k ≡ MessageKind.Memory → pt.view.inbox pt.view.acting ≡ i ∷ is → pt.view.told i ≡ Some t → is_kernels i ≡ true
     → spelled pt (takes_block i u.p last) ≡ Some w → Whole w.point
-block_row pt i is t true w h u e front told mine is_ =
-    let l = Line.Migration Stage.MemoryTaken u.p in
-    answer_row pt l i is t MessageKind.AllTaken i.from.home w h u refl refl refl front told (goes_first pt l i is refl h.state front mine (λ z. memory_off pt.view u.p z)) (λ z. memory_off pt.view u.p z)
-    (λ m q off. refl) (same_row pt i t h.phases u MessageKind.AllTaken (view_after pt.view l) (λ m. refl) (ap is_restart e) (ap is_early e) (ap is_calloff e))
-    (λ q off. ap (λ (c : Bool). if c then true else pt.view.come q) off) (ap (λ (c : Bool). if c then true else pt.view.come u.p) (pid_eq-same u.p))
-    (answer_left pt l i is t h u (Moves MessageKind.AllTaken u.s u.d None) refl (ap is_calloff e) refl front (λ z. memory_off pt.view u.p z) (λ m s here. here)) refl refl refl
-    (ap (λ (k : MessageKind). receiver_in k u.s u.d) e) (to_sender pt i t h.phases u ∙ ap (λ (k : MessageKind). sender_in k u.s u.d) e) is_
+block_row pt i is t true w h u e front told mine is_ = all_taken_row pt i is t w h u (ap (λ (k : MessageKind). brings_piece (sort_of k)) e) front told mine is_
 block_row pt i is t false w h u e front told mine is_ =
     proto_row pt i is t MessageKind.PullBlock w h u (ap is_calloff e) (ap is_restart e) (ap is_early e) (ap is_calloff e) (ap (λ (k : MessageKind). tells_come (sort_of k)) e) (ap (λ (k : MessageKind). receiver_in k u.s u.d) e) (ap (λ (k : MessageKind). sender_in k u.s u.d) e) refl front told mine is_
 

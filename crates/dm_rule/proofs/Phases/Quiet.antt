@@ -48,7 +48,7 @@ QuietLine v (Line.Here i) = Tame v i
 QuietLine v (Line.NoMove i) = Tame v i
 QuietLine v (Line.NoChild p) = ⊤
 QuietLine v (Line.NoCall p) = ⊤
-QuietLine v (Line.Pinned p) = ⊤
+QuietLine v Line.Away = ⊤
 QuietLine v (Line.Migration Stage.Asked p) = ⊤
 QuietLine v (Line.Migration Stage.Frozen p) = ⊥
 QuietLine v (Line.Migration Stage.Accepted p) = ⊥
@@ -167,7 +167,7 @@ line_calm pt s (Line.Here i) h quiet is = hushed_calm pt.view (Line.Here i) i re
 line_calm pt s (Line.NoMove i) h quiet is = hushed_calm pt.view (Line.NoMove i) i refl refl (tame_plain pt.view i quiet) (λ m q. refl) (λ j e z. handled_spots pt.view i j e z)
 line_calm pt s (Line.NoChild p) h quiet is = calm_same pt.view
 line_calm pt s (Line.NoCall p) h quiet is = calm_same pt.view
-line_calm pt s (Line.Pinned p) h quiet is = calm_same pt.view
+line_calm pt s Line.Away h quiet is = calm_same pt.view
 line_calm pt s (Line.Migration Stage.Asked p) h quiet is = calm_same pt.view
 line_calm pt s _ h quiet is = absurd quiet
 

@@ -2,7 +2,7 @@
 use Rattle.dm_rule.proofs.Names.{◌≡◌, ◌⊎◌, ℕ, ◌+◌, ◌<◌, ◌≤◌, ◌==◌, ◌&&◌, Bool, true, false, List, [], ◌∷◌, ◌++◌, refl, ap, ◌∙◌, sym, subst, inl, inr, arith, ⊤, if◌then◌else◌, length, drop, slice_get, drop-append-le, drop-length}
 use Rattle.dm_rule.proofs.Names.{length-append, cases_Bool, false≢true, nat_tests, Option, None, Some, Pid, pid_of, pid_eq, pid_eq-same, MsgId, MessageKind, id_eq, id_eq-is, id_of, Load, Label, Stage, Step, Line, at_machine, at_pair}
 use Rattle.dm_rule.proofs.Names.{at_record, without_front, View, Pair, Told, About, NothingElse, Target, own_id, view_after, after_put, after_head, after_label, handled, handled_first, queued_for, held_for, dropped_for, forwarded_for}
-use Rattle.dm_rule.proofs.Names.{receiver_of, served_told, ends_by, sort_of, released, is_between, untaken, times, both_true, id_eq-same, routed_on, option_map_or, eqb-true, false_from_ne_true, and_parts, append_assoc, and_right, ordered}
+use Rattle.dm_rule.proofs.Names.{receiver_of, served_told, ends_by, sort_of, released, is_between, untaken, times, both_true, id_eq-same, routed_on, option_map_or, eqb-true, false_from_ne_true, and_parts, append_assoc, and_right, ordered, is_server}
 use Rattle.dm_rule.specs.View as view
 use Rattle.dm_rule.proofs.Hushed.{is_put, hushed}
 use Rattle.dm_rule.proofs.Standing.{times-append}
@@ -171,11 +171,15 @@ line_lists v l h =
         | inr off ↦ subst (λ k. 1 ≤ k) (ap (λ (c : Bool). times i (if c then [] else v.held m q)) off) there
       ];
     } in
+    let chunk : (v : View) (p : Pid) → Lists v (view_after v (Line.Migration Stage.StateTaken p)) = λ v p. elim (cases_Bool (is_server p)) [
+      | inl server ↦ lists_same v (view_after v (Line.Migration Stage.StateTaken p)) (ap (λ (c : Bool). if c then v.inbox else (handled_first v).inbox) server) refl
+      | inr process ↦ lists_first v (view_after v (Line.Migration Stage.StateTaken p)) (ap (λ (c : Bool). if c then v.inbox else (handled_first v).inbox) process) refl
+    ] in
     let stage : (v : View) (p : Pid) (s : Stage) → IsLess (Line.Migration s p) → Lists v (view_after v (Line.Migration s p)) = λ v p s h. (elim s as (λ s_. IsLess (Line.Migration s_ p) → Lists v (view_after v (Line.Migration s_ p))) [
       | Stage.Frozen ↦ λ h_. sets v p v.topic
       | Stage.Restarted ↦ λ h_. absurd h_
       | Stage.Accepted ↦ λ h_. lists_first v (view_after v (Line.Migration Stage.Accepted p)) refl refl
-      | Stage.StateTaken ↦ λ h_. lists_first v (view_after v (Line.Migration Stage.StateTaken p)) refl refl
+      | Stage.StateTaken ↦ λ h_. chunk v p
       | Stage.MemoryTaken ↦ λ h_. lists_first v (view_after v (Line.Migration Stage.MemoryTaken p)) refl refl
       | Stage.Left ↦ λ h_. lists_same v (view_after v (Line.Migration Stage.Left p)) refl refl
       | Stage.Asked ↦ λ h_. lists_same v v refl refl
@@ -206,7 +210,7 @@ line_lists v l h =
           | inr off ↦ subst (λ k. 1 ≤ k) (ap (λ (c : Bool). times i (if c then [] else v.held m q)) off) there
         ];
       }
-      | Line.Pinned p ↦ λ h_. lists_same v v refl refl
+      | Line.Away ↦ λ h_. lists_same v v refl refl
       | _ ↦ λ h_. absurd h_
     ]) h
 
@@ -263,7 +267,7 @@ released_ranked v p h = record {
 
 pub back_ranked : (v : View) (p : Pid) → Ranked v → Ranked (view.rejoins (handled_first v) p)
 back_ranked v p h =
-    let u = view.with_ring (view.knowing (handled_first v) p view.Here) (v.ring v.acting ++ p ∷ []) in
+    let u = view.seated (view.with_ring (view.knowing (handled_first v) p view.Here) (view.ring_with (v.ring v.acting) p)) p in
     let lists : Lists v u = lists_first v u refl refl in
     released_ranked u p (thin_ranked v u (record { told = λ i. refl; count = λ a. refl; inbox = lists.inbox; away = λ a c. refl; held = lists.held }) h)
 

@@ -127,7 +127,7 @@ home_left pt l i is t at h u kept quiet front off learned =
     (λ m s here. kept_awaited (pt.view.acting == m) Here (pt.view.known m u.p) s (λ s e. cc) (sym (home_known pt.view l u.p learned m) ∙ here))
     (λ j x z. subst (λ (y : MsgId). standing (view_after pt.view l) y z ≡ 0) (token_one (h.phases.of u.p) u.k u.s u.d i j u.phase x) (back_gone pt l i is u.p h.state quiet front off z))
 
-eq_other : (m n : ℕ) → (m == n) ≡ false → (n == m) ≡ false
+pub eq_other : (m n : ℕ) → (m == n) ≡ false → (n == m) ≡ false
 eq_other m n e = grind (arith, nat_tests)
 
 -- and where it was called off, what asks for a piece stands before, and so nowhere

@@ -1,10 +1,10 @@
 -- Rings list what is here, and nothing is known of what was never made: a line after the other.
 use Rattle.dm_rule.proofs.Names.{◌≡◌, ℕ, ◌+◌, ◌≤◌, ◌==◌, not, filter, [], ◌∷◌, ◌++◌, refl, ap, ◌∙◌, sym, subst, ⊤, Option, None, Some, Pid, MsgId, MessageKind, Step, Stage, Label, bind, Life, Alive, OneKernel, Line, at_machine, at_record}
 use Rattle.dm_rule.proofs.Names.{without, moved_back, View, Told, About, Of, Known, Unknown, Here, Frozen, Incoming, view_after, handled, receiver_of, ends_by, served_told, front_of, gone_to, Point, label_of, kernel_after, pid_eq-same}
-use Rattle.dm_rule.proofs.Names.{bind-is, when-is, nexts, after_step, at_hand-is, seen, sort_of, arith, goes_back}
+use Rattle.dm_rule.proofs.Names.{bind-is, when-is, nexts, after_step, at_hand-is, seen, sort_of, arith, goes_back, ring_with}
 use Rattle.dm_rule.proofs.Seen.{aim, sets}
 use Rattle.dm_rule.proofs.Telling.{Sane}
-use Rattle.dm_rule.proofs.Rings.{Rings, all_moved, learnt_without, learnt_last, rings_same, rings_ring, rings_learn, rings_known}
+use Rattle.dm_rule.proofs.Rings.{Rings, all_moved, learnt_without, learnt_last, learnt_with, rings_same, rings_ring, rings_learn, rings_known}
 use Rattle.dm_rule.proofs.Lives.{Lives, Lived, Kept, grown_none, lives_same, lives_learn}
 use Rattle.dm_onekernel.specs.Service as service
 use Rattle.dm_onekernel.specs.Step as kernel
@@ -41,6 +41,12 @@ roots_leaves s t v w p k kept lived known is h = record {
 roots_comes : (s t : OneKernel) (v w : View) (p : Pid) → Kept s t → Lived t p → w.known ≡ at_record v.known v.acting p Here → w.ring ≡ at_machine v.ring v.acting (v.ring v.acting ++ p ∷ []) → Roots s v → Roots t w
 roots_comes s t v w p kept lived known is h = record {
   rings = rings_learn v w p Here (v.ring v.acting ++ p ∷ []) known is (learnt_last (v.known v.acting) p (v.ring v.acting) (h.rings.each v.acting)) h.rings;
+  lives = lives_learn s t v w p Here kept known (λ none le. absurd (lived none le)) h.lives;
+}
+
+roots_joins : (s t : OneKernel) (v w : View) (p : Pid) → Kept s t → Lived t p → w.known ≡ at_record v.known v.acting p Here → w.ring ≡ at_machine v.ring v.acting (ring_with (v.ring v.acting) p) → Roots s v → Roots t w
+roots_joins s t v w p kept lived known is h = record {
+  rings = rings_learn v w p Here (ring_with (v.ring v.acting) p) known is (learnt_with (v.known v.acting) p (v.ring v.acting) (h.rings.each v.acting)) h.rings;
   lives = lives_learn s t v w p Here kept known (λ none le. absurd (lived none le)) h.lives;
 }
 
@@ -163,9 +169,9 @@ line_by pt t (Line.Migration Stage.Frozen p) need sane kept e h =
     roots_leaves pt.kernel t pt.view (view_after pt.view (Line.Migration Stage.Frozen p)) p (Frozen (aim pt.view pt.view.topic)) kept (λ none le. need (kept p none) le) k.known k.ring h
 line_by pt t (Line.Migration Stage.Accepted p) need sane kept e h = roots_known pt.kernel t pt.view (view_after pt.view (Line.Migration Stage.Accepted p)) p (Incoming (front_of (pt.view.inbox pt.view.acting))) kept (λ none le. absurd (need.0 (kept p none) le)) refl refl (λ here. absurd (need.1 here)) h
 line_by pt t (Line.Migration Stage.Left p) need sane kept e h = roots_known pt.kernel t pt.view (view_after pt.view (Line.Migration Stage.Left p)) p (gone_to (pt.view.known pt.view.acting p) (pt.view.moves p + 1)) kept (λ none le. ap (λ (x : Known). gone_to x (pt.view.moves p + 1)) (h.lives.none p (kept p none) le pt.view.acting)) refl refl (gone_here (pt.view.known pt.view.acting p) (pt.view.moves p + 1)) h
-line_by pt t (Line.Migration Stage.Restarted p) need sane kept e h = roots_comes pt.kernel t pt.view (view_after pt.view (Line.Migration Stage.Restarted p)) p kept (λ none le. need (kept p none) le) refl refl h
+line_by pt t (Line.Migration Stage.Restarted p) need sane kept e h = roots_joins pt.kernel t pt.view (view_after pt.view (Line.Migration Stage.Restarted p)) p kept (λ none le. need (kept p none) le) refl refl h
 line_by pt t (Line.Called p n) need sane kept e h = roots_known pt.kernel t pt.view (view_after pt.view (Line.Called p n)) p (goes_back (pt.view.known pt.view.acting p) (pt.view.moves p)) kept (λ none le. ap (λ (x : Known). goes_back x (pt.view.moves p)) (h.lives.none p (kept p none) le pt.view.acting)) refl refl (back_here (pt.view.known pt.view.acting p) (pt.view.moves p)) h
-line_by pt t (Line.Stays p) need sane kept e h = roots_comes pt.kernel t pt.view (view_after pt.view (Line.Stays p)) p kept (λ none le. need (kept p none) le) refl refl h
+line_by pt t (Line.Stays p) need sane kept e h = roots_joins pt.kernel t pt.view (view_after pt.view (Line.Stays p)) p kept (λ none le. need (kept p none) le) refl refl h
 line_by pt t (Line.Buried id n) need sane kept e h = buried_roots t (handled pt.view id) (pt.view.told id) need (roots_idle pt.kernel t pt.view (handled pt.view id) kept (record { known = refl; ring = refl }) h)
 line_by pt t any_ need sane kept e h = roots_idle pt.kernel t pt.view (view_after pt.view any_) kept (record { known = refl; ring = refl }) h
 

@@ -1,9 +1,9 @@
 -- What a kernel's own message, a turn, and the other directives say needs nothing but for the first line.
-use Rattle.dm_rule.proofs.Names.{◌≡◌, ℕ, List, [], ◌∷◌, ◌++◌, refl, ap, ◌∙◌, Option, None, Some, Pid, MsgId, MessageKind, Boot, PlainProcess, OneKernel, Told, Of, Here, Point, Part, Says, Transmits, sends_on, arith, View, Line, Stage, is_away, preds_of, to_kernel, length, manager, sym, true, false≢true}
-use Rattle.dm_onekernel.specs.Step as kernel
+use Rattle.dm_rule.proofs.Names.{◌≡◌, ℕ, List, [], ◌∷◌, ◌++◌, refl, ap, ◌∙◌, Option, None, Some, Pid, MsgId, MessageKind, Boot, Size, size_of, OneKernel, Told, Of, Here, Point, Part, Says, Transmits, sends_on, arith, View, Line, Stage, is_away, preds_of, to_kernel, length, manager, sym, true, false≢true}
 use Rattle.dm_rule.specs.Rule as rule
 use Rattle.dm_rule.proofs.Groups.{IsNet}
-use Rattle.dm_rule.proofs.Lives.{Lives, Lived, lived_alive, lived_here}
+use Rattle.dm_rule.proofs.Lives.{Lives, Lived, lived_here}
+use Rattle.dm_rule.proofs.Sizes.{lived_sized}
 use Rattle.dm_rule.proofs.Rooted.Lines.{Needs}
 use Rattle.dm_rule.proofs.Rooted.Rows.{AllLoose, First, FirstOf, round_first, forwards_first, handles_first, first_of}
 use Rattle.dm_rule.proofs.Hearing.{by_hears}
@@ -30,8 +30,7 @@ bury_needs pt i t n aways told kind u p there about here =
 hears_first : (pt : Point) (b : Boot) (o : Point) (m : ℕ) (id : MsgId) (q : Option Told) → pt.kernel ≡ o.kernel → Lives pt.kernel pt.view → ((p : Pid) → pt.view.known pt.view.acting p ≡ o.view.known m p) → ((t : Told) → q ≡ Some t → Asks pt t) → BuriesAway pt.view → pt.view.told id ≡ q
     → FirstOf pt (rule.hears b o m id q)
 hears_first pt b o m id q same lives known asks aways told = first_of pt (rule.hears b o m id q) (λ ps. by_hears (First pt) b o m id q ps (λ t is. (
-    let lived : (p : Pid) (x : PlainProcess) → kernel.alive (o.kernel.processes p) ≡ Some x → Lived pt.kernel p =
-    λ p x alive. lived_alive pt.kernel p (pt.kernel.processes p) x (ap (λ (s : OneKernel). kernel.alive (s.processes p)) same ∙ alive) refl in
+    let lived : (p : Pid) (x : Size) → size_of o.kernel p ≡ Some x → Lived pt.kernel p = λ p x sized. lived_sized pt.kernel p x (ap (λ (s : OneKernel). size_of s p) same ∙ sized) in
     record {
       told = λ p x about alive due. record {
         accepted = λ ask. ((lived p x alive, asks t is ask p about), (λ z k. tt, tt));
@@ -41,6 +40,7 @@ hears_first pt b o m id q same lives known asks aways told = first_of pt (rule.h
         state = (tt, (λ z k. tt, tt));
         next_chunk = (tt, (λ z k. tt, tt));
         last_chunk = (tt, (λ z k. tt, tt));
+        server_chunk = λ server. (tt, (λ z k. tt, (λ z k. tt, tt)));
         memory = (tt, (λ z k. tt, tt));
         next_block = (tt, (λ z k. tt, tt));
         last_block = (tt, (λ z k. tt, tt));

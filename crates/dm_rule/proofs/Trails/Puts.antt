@@ -1,7 +1,8 @@
 -- Puts keep each address on its trail.
 use Rattle.dm_rule.proofs.Names.{◌≡◌, ◌⊎◌, ℕ, suc, ◌+◌, Bool, true, false, List, [], ◌∷◌, refl, ap, ◌∙◌, sym, subst, inl, inr, arith, if◌then◌else◌, slice_get, Option, None, Some, cases_Bool, false≢true, Pid, pid_eq, MsgId, id_eq}
-use Rattle.dm_rule.proofs.Names.{MessageKind, manager, OneKernel, pid_eq-is, id_eq-is, id_eq-same, View, Told, is_kernels, after_put, Addresses, Holder, Receiver, Sender, Child, Gets, given, unmoved, child_number, own_given, position_from}
-use Rattle.dm_rule.proofs.Names.{first_gives, names, Trails, Trail, IsOn, Sort, sort_of, option_map_or}
+use Rattle.dm_rule.proofs.Names.{MessageKind, manager, OneKernel, pid_eq-is, id_eq-is, id_eq-same, View, Told, is_kernels, after_put, Addresses, Holder, Receiver, Sender, Child, Gets, given, acting_place, unmoved, child_number, own_given, position_from}
+use Rattle.dm_rule.proofs.Names.{first_gives, names, Trails, IsOn, Sort, sort_of, Place, known_place}
+use Rattle.std.specs.Option.{unwrap_or}
 use Rattle.dm_rule.proofs.States.{put_told_off}
 use Rattle.dm_rule.proofs.Phases.Lines.{put_at}
 use Rattle.dm_rule.proofs.Trails.Places.{Goes, Comes, Named, Links, Owns, AllAre, AllGet, given_on}
@@ -115,9 +116,10 @@ about_put v t x y id k q about topic i u p m c told e = elim (cases_Bool (id_eq 
   | inr apart ↦ about i u p m c (sym (put_told_off v x y id i k q apart) ∙ told) e
 ]
 
--- the places of a request to move a child
-pub migrate_to : (s : OneKernel) (v : View) (a : Addresses) (t : Trails) (id : MsgId) (q : Pid) (n : ℕ) → child_number s q ≡ Some n → IsOn t q (a (Child n)) → IsOn t q (given a (own_given s v a id q (sort_of MessageKind.Migrate)) (Receiver id))
-migrate_to s v a t id q n child on = subst (IsOn t q) (sym (ap (λ (c : Bool). if c then option_map_or (λ c. a (Child c)) (child_number s q) (unmoved 0) else a (Receiver id)) (id_eq-same id) ∙ ap (λ (o : Option ℕ). option_map_or (λ c. a (Child c)) o (unmoved 0)) child)) on
+-- the places of a request to move
+pub migrate_to : (s : OneKernel) (v : View) (a : Addresses) (t : Trails) (id : MsgId) (q : Pid) (x : Place) → known_place s v v.acting a q ≡ Some x → IsOn t q x → IsOn t q (given a (own_given s v a id q (sort_of MessageKind.Migrate)) (Receiver id))
+migrate_to s v a t id q x knows on =
+    subst (IsOn t q) (sym (ap (λ (c : Bool). if c then unwrap_or (known_place s v v.acting a q) (unmoved 0) else a (Receiver id)) (id_eq-same id) ∙ ap (λ (o : Option Place). unwrap_or o (unmoved 0)) knows)) on
 
-pub migrate_from : {lives : Bool} (s : OneKernel) (v : View) (a : Addresses) (t : Trails) (id : MsgId) (q : Pid) → v.acting ≡ 0 → Trail lives v t manager → IsOn t manager (given a (own_given s v a id q (sort_of MessageKind.Migrate)) (Sender id))
-migrate_from s v a t id q first trail = subst (IsOn t manager) (sym (ap (λ (c : Bool). if c then unmoved v.acting else a (Sender id)) (id_eq-same id) ∙ ap unmoved first)) trail.begins
+pub migrate_from : (s : OneKernel) (v : View) (a : Addresses) (t : Trails) (id : MsgId) (q : Pid) → IsOn t manager (acting_place v manager) → IsOn t manager (given a (own_given s v a id q (sort_of MessageKind.Migrate)) (Sender id))
+migrate_from s v a t id q here = subst (IsOn t manager) (sym (ap (λ (c : Bool). if c then acting_place v manager else a (Sender id)) (id_eq-same id))) here

@@ -1,6 +1,6 @@
 -- Before the first line each process's trail is its home, and each address names it.
-use Rattle.dm_rule.proofs.Names.{◌≡◌, ◌≢◌, ℕ, ◌==◌, ◌&&◌, Bool, true, false, refl, ◌∙◌, sym, arith, if◌then◌else◌, None, Some, nat_tests, Pid, Boot, Unknown, Here, Forward, first_view, Trail, StoodOnTrail, first_trails, both_true}
-use Rattle.dm_rule.proofs.Phases.Start.{starts, start_known, start_phase}
+use Rattle.dm_rule.proofs.Names.{◌≡◌, ◌≢◌, ℕ, ◌==◌, ◌&&◌, Bool, true, false, refl, ◌∙◌, sym, arith, if◌then◌else◌, nat_tests, Pid, Boot, Unknown, Here, Forward, first_view, Trail, first_trails, both_true}
+use Rattle.dm_rule.proofs.Phases.Start.{starts, start_known}
 
 start_no_forward : (b : Bool) (k j : ℕ) → (if b then Here else Unknown) ≢ Forward k j
 start_no_forward true k j = λ e. cc

@@ -1,6 +1,7 @@
 -- Only machines that act know processes, and so all machines of a trail are among those of the boot file.
 use Rattle.dm_rule.proofs.Names.{◌≡◌, ◌≢◌, ℕ, ◌+◌, ◌<◌, ◌==◌, refl, ◌∙◌, sym, subst, ⊤, not, filter, slice_get, Option, None, Some, Pid, MsgId, Label, Step, Line, at_record, View, Told, Known, Unknown, Here, actor, view_after, after_label}
-use Rattle.dm_rule.proofs.Names.{after_head, handled, taken_id, queued_for, held_for, forwarded_for, served_told, receiver_of, Trails, Trail, arith, and_parts, eqb-true, is_made, true, OneKernel}
+use Rattle.dm_rule.proofs.Names.{Bool, false, ap, if◌then◌else◌, manager, has_seat, is_here, IsStep}
+use Rattle.dm_rule.proofs.Names.{after_head, handled, taken_id, queued_for, held_for, forwarded_for, served_told, receiver_of, Trails, arith, and_parts, eqb-true, is_made, true, OneKernel}
 use Rattle.dm_rule.proofs.Seen.{sets}
 use Rattle.dm_rule.proofs.Homes.Lines.{acting_label}
 use Rattle.dm_rule.proofs.Phases.Lines.{queued_known, held_known, dropped_known, forwarded_known}
@@ -17,7 +18,7 @@ pub record TrailsIn (n : ℕ) (s : OneKernel) (t : Trails) : Type 0 where
 
 -- a head names one of so many machines
 abbrev pub HeadIn : ℕ → Line → Type 0
-HeadIn n (Line.Head d) = actor d < n
+HeadIn n (Line.Head d) = IsStep n d
 HeadIn n l = ⊤
 
 within_same : (n : ℕ) (v w : View) → ((m : ℕ) (q : Pid) → w.known m q ≡ v.known m q) → w.acting ≡ v.acting → Within n v → Within n w
@@ -41,9 +42,21 @@ pub forwarded_acting : (v : View) (o : Option Pid) → (forwarded_for v o).actin
 forwarded_acting v None = refl
 forwarded_acting v (Some p) = refl
 
+-- the manager is on a machine that there is
+seat_less : (n : ℕ) (v : View) (c : Bool) → has_seat v ≡ c → 0 < n → ((m : ℕ) (q : Pid) → v.known m q ≢ Unknown → m < n) → (if c then v.seat else 0) < n
+seat_less n v true here least within = within v.seat manager (λ e. let off : is_here Unknown ≡ true = sym (ap is_here e) ∙ here in absurd (cc))
+seat_less n v false here least within = least
+
+pub head_less : (n : ℕ) (v : View) (d : Step) → ((m : ℕ) (q : Pid) → v.known m q ≢ Unknown → m < n) → IsStep n d → actor v d < n
+head_less n v (Step.Turn m) within fit = fit
+head_less n v (Step.Tick m) within fit = fit
+head_less n v (Step.Deliver a b k) within fit = fit.1
+head_less n v (Step.Migrate p m) within fit = seat_less n v (has_seat v) refl (omega (arith, fit)) within
+head_less n v (Step.CallOff p m) within fit = fit
+
 pub line_within : (n : ℕ) (v : View) (l : Line) → HeadIn n l → Within n v → Within n (view_after v l)
-line_within n v (Line.Head d) e h = (elim d as (λ d_. actor d_ < n → Within n (after_head v d_))
-    [ Step.Turn m ↦ λ e_. record { known = h.known; acting = e_ } | _ ↦ λ e_. record { known = h.known; acting = e_ } ]) e
+line_within n v (Line.Head d) e h = (elim d as (λ d_. actor v d_ < n → Within n (after_head v d_))
+    [ Step.Turn m ↦ λ e_. record { known = h.known; acting = e_ } | _ ↦ λ e_. record { known = h.known; acting = e_ } ]) (head_less n v d h.known e)
 line_within n v (Line.Label l) e h =
     let label_within : (n : ℕ) (v : View) (l : Label) → Within n v → Within n (after_label v l) = λ n v l h1.
     let served_within : (n : ℕ) (v : View) (o : Option Told) → Within n v → Within n (served_told v o) = λ n v o h1. search (arith, within_set) in
@@ -71,6 +84,6 @@ line_within n v (Line.Old a b k) e h = h
 line_within n v (Line.Resent m k) e h = h
 line_within n v (Line.NoChild p) e h = h
 line_within n v (Line.NoCall p) e h = h
-line_within n v (Line.Pinned p) e h = h
+line_within n v Line.Away e h = h
 line_within n v Line.Nothing e h = h
 line_within n v _ e h = record { known = h.known; acting = h.acting }

@@ -2,18 +2,19 @@
 use Rattle.dm_rulelaws.proofs.Names.{◌≡◌, ℕ, ◌==◌, Bool, true, false, not, List, [], ◌∷◌, ◌++◌, length, refl, ap, ◌∙◌, sym, subst, Option, None, Some, arith, Pid, MsgId, MessageKind, Stage, Boot, manager, Step, Line, View, Told, Of, Known}
 use Rattle.dm_rulelaws.proofs.Names.{Frozen, Incoming, after_head, Point, moved, Says, Spelled, is_between, is_apart, is_away, is_here, Phase, Moves, knows, receiver_in, to_kernel, sends_on, updates, migrates, group_of, at_record_at}
 use Rattle.dm_rulelaws.proofs.Names.{front_way, Sane, InPhases, calm_phases, due, head_calm, told_some, Rooted, Phased, rooted, moves_away, State, is_server, has_nothing_held, KnownStands, right_true, by_migrates, by_hears, left_parts}
-use Rattle.dm_rulelaws.proofs.Names.{by_net, by_outcome, answers_move, Outcome, calls_off, pulls_piece, TurnsBack, sort_of, inl, inr, Here, Unknown, by_calls_off, server_at, false_from_ne_true, if◌then◌else◌, Part, about_same, agrees}
+use Rattle.dm_rulelaws.proofs.Names.{by_net, by_outcome, answers_move, Outcome, calls_off, pulls_piece, TurnsBack, sort_of, inl, inr, by_calls_off, Part, about_same, agrees}
 use Rattle.dm_rulelaws.proofs.Names.{buries, bury_over, is_some, preds_of, turn_off, Ended, Made, Why, OneKernel, begun_state}
 use Rattle.dm_rule.specs.Rule as rule
+use Rattle.dm_rulelaws.proofs.Sized.{alive_sized}
 use Rattle.dm_rulelaws.proofs.Based.Needs.{Buries, TellsEnd, life_sort, Leaving, Calling, Keeps, Walks, WalksOf, AllLoose, loose_walks, first_walks, said_by, again_rides, begun, begun_sane, outcome_keeps}
-use Rattle.dm_rulelaws.proofs.Based.Rows.{buries_loose, made_server, walks_of, known_living, turned, resting, living, round_walks, handles_walks, forwards_walks}
+use Rattle.dm_rulelaws.proofs.Based.Rows.{buries_loose, made_server, walks_of, known_alive, turned, resting, round_walks, handles_walks, forwards_walks}
 
 again_walks : (p : Pid) (to : ℕ) (id : MsgId) (ids : List MsgId) (pt : Point) → Leaving pt.view p → Walks pt (sends_on to ids ++ Says (Line.Migration Stage.Left p) ∷ to_kernel MessageKind.Restart id.from.home ∷ [])
 again_walks p to id [] pt h = first_walks (Says (Line.Migration Stage.Left p)) (to_kernel MessageKind.Restart id.from.home ∷ []) pt h (λ q. tt, tt)
 again_walks p to id (i ∷ is) pt h = (tt, λ next s. again_walks p to id is next (again_rides (λ q. Leaving q.view p) (search arith) pt next i to s h))
 
-leaves_walks : (pt : Point) (id : MsgId) (p : Pid) (ids : List MsgId) (to : ℕ) → pt.view.known pt.view.acting p ≡ Frozen to → is_server p ≡ false → Walks pt (left_parts id p ids to)
-leaves_walks pt id p ids to known server = (
+leaves_walks : (pt : Point) (id : MsgId) (p : Pid) (ids : List MsgId) (to : ℕ) → pt.view.known pt.view.acting p ≡ Frozen to → Walks pt (left_parts id p ids to)
+leaves_walks pt id p ids to known = (
   tt,
   λ next s.
       let v = pt.view in
@@ -92,8 +93,8 @@ hears_walks b o m i is q h front told = walks_of (turned o m) (rule.hears b o m 
     record {
       buried = λ p about kind. first_walks (Says (Line.Buried i (length (preds_of o m p)))) (buries o m p) pt (buries_here o m i t p found (h.over i is t p front found about kind) about) (buries_loose (preds_of o m p));
       stale = λ p about late. loose_walks (Says (Line.Stale i) ∷ []) pt (λ q. tt, tt);
-      told = λ p x about alive due_. (
-          let lived = living pt p x h.sane alive in
+      told = λ p x about sized due_. (
+          let lived = alive_sized o.kernel p x sized in
           let e = moving pt i is t p h.phases front found about due_ in
           record {
             accepted = λ ask. first_walks (Says (Line.Migration Stage.Accepted p)) (to_kernel MessageKind.PullState i.from.home ∷ []) pt (lived, e.asked ask) (λ q. tt, tt);
@@ -106,8 +107,9 @@ hears_walks b o m i is q h front told = walks_of (turned o m) (rule.hears b o m 
             last_chunk = loose_walks (Says (Line.Migration Stage.StateTaken p) ∷ to_kernel MessageKind.PullBlock i.from.home ∷ []) pt (λ q. tt, (λ q. tt, tt));
             memory = loose_walks (Says (Line.Proto i) ∷ to_kernel MessageKind.Memory i.from.home ∷ []) pt (λ q. tt, (λ q. tt, tt));
             next_block = loose_walks (Says (Line.Proto i) ∷ to_kernel MessageKind.PullBlock i.from.home ∷ []) pt (λ q. tt, (λ q. tt, tt));
+            server_chunk = λ server. loose_walks (Says (Line.Migration Stage.StateTaken p) ∷ Says (Line.Migration Stage.MemoryTaken p) ∷ to_kernel MessageKind.AllTaken i.from.home ∷ []) pt (λ q. tt, (λ q. tt, (λ q. tt, tt)));
             last_block = loose_walks (Says (Line.Migration Stage.MemoryTaken p) ∷ to_kernel MessageKind.AllTaken i.from.home ∷ []) pt (λ q. tt, (λ q. tt, tt));
-            left = λ ids to leaves. leaves_walks pt i p ids to leaves.known lived.server;
+            left = λ ids to leaves. leaves_walks pt i p ids to leaves.known;
             restarted = λ kind free. first_walks (Says (Line.Migration Stage.Restarted p)) [] pt (lived, restarts_off pt.view p t.kind e kind) tt;
           }
           );
@@ -119,28 +121,24 @@ hears_walks b o m i is q h front told = walks_of (turned o m) (rule.hears b o m 
       forwarded = λ to moves at_. forwards_walks pt o.addresses i t.kind manager to;
       stays_here = λ at_. loose_walks (Says (Line.Here i) ∷ []) pt (λ q. tt, tt);
       frozen = λ to at_. first_walks (Says (Line.Migration Stage.Frozen t.receiver)) (Says (Line.Migration Stage.Asked t.receiver) ∷ to_kernel MessageKind.Ask to ∷ []) pt
-          (known_living o.kernel o.view m t.receiver h.known at_.server at_.known, at_.known) (λ q. tt, (λ q. tt, tt));
+          (known_alive o.kernel o.view m t.receiver h.known at_.known, at_.known) (λ q. tt, (λ q. tt, tt));
     }
     )))
 
 migrates_loose : (o : Point) (p : Pid) → AllLoose (migrates o p)
-migrates_loose o p = by_migrates AllLoose o p (λ pt. tt, tt) (λ pt. tt, tt) (λ n off is. (λ pt. tt, tt))
+migrates_loose o p = by_migrates AllLoose o p (λ pt. tt, tt) (λ pt. tt, tt) (λ a here knows. (λ pt. tt, tt))
 
 sends_loose : (to : ℕ) (ids : List MsgId) (ps : List Part) → AllLoose ps → AllLoose (sends_on to ids ++ ps)
 sends_loose to [] ps h = h
 sends_loose to (i ∷ is) ps h = (λ q. tt, sends_loose to is ps h)
 
--- what comes is no server
-comes_apart : (m from : ℕ) → Incoming from ≡ server_at m → ⊥
-comes_apart m from e = (elim (m == 0) as (λ c. Incoming from ≡ (if c then Here else Unknown) → ⊥) [ true ↦ λ f. cc | false ↦ λ f. cc ]) e
-
-calls_walks : (pt : Point) (m : ℕ) (p : Pid) → KnownStands pt.kernel pt.view → Walks (begun pt (Step.CallOff p m)) (calls_off pt m p (pt.view.known m p))
-calls_walks pt m p known =
+calls_walks : (pt : Point) (m : ℕ) (p : Pid) → Walks (begun pt (Step.CallOff p m)) (calls_off pt m p (pt.view.known m p))
+calls_walks pt m p =
     let start = begun pt (Step.CallOff p m) in
     by_calls_off (Walks start) pt m p (loose_walks (Says (Line.NoCall p) ∷ []) start (λ q. tt, tt)) (λ from is come. (
     let ids = pt.view.held m p in
     let end = to_kernel MessageKind.CallOff from ∷ [] in
-    let calling : Calling start.view p = record { from = from; comes = is; server = false_from_ne_true (is_server p) (λ s. comes_apart m from (sym is ∙ known.server m p s)) } in
+    let calling : Calling start.view p = record { from = from; comes = is } in
     first_walks (Says (Line.Called p (length ids))) (sends_on from ids ++ end) start calling (sends_loose from ids end (λ q. tt, tt))
     ))
 
@@ -179,7 +177,7 @@ outcome_walks b pt d h known = walks_of (begun pt d) (rule.outcome b pt d) (λ p
   ticks = λ m xs net. loose_walks xs (begun pt (Step.Tick m)) ((by_net AllLoose tt (λ l ps net h. ((λ pt. search arith), h)) (λ a b l ps h. (λ pt. tt, h))) xs net);
   delivers = λ a c k xs net. loose_walks xs (begun pt (Step.Deliver a c k)) ((by_net AllLoose tt (λ l ps net h. ((λ pt. search arith), h)) (λ a b l ps h. (λ pt. tt, h))) xs net);
   asks = λ p m. loose_walks (migrates pt p) (begun pt (Step.Migrate p m)) (migrates_loose pt p);
-  calls = λ p m. calls_walks pt m p known;
+  calls = λ p m. calls_walks pt m p;
 }))
 
 -- each group keeps what each of its lines keeps

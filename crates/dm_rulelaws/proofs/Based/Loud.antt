@@ -1,9 +1,9 @@
 -- Most lines change nothing of what machines know, of rings, queues and held lists: what must be shown of the others.
 use Rattle.dm_rulelaws.proofs.Names.{◌≡◌, ℕ, ◌+◌, ◌==◌, true, false, not, filter, refl, subst, Option, None, Some, Pid, MsgId, Step, Stage, Label, Reply, Why, OneKernel, Line, View, Told, About, Here, view_after, handled, receiver_of}
 use Rattle.dm_rulelaws.proofs.Names.{is_away, is_here, Point, label_of, kernel_after, moved, hushed, Sane, has_nothing_held, Bool, ap, ◌∙◌, sym, inl, inr, if◌then◌else◌, cases_Bool, false≢true, pid_eq, plain_kind, PlainMessage, PlainWhat}
-use Rattle.dm_rulelaws.proofs.Names.{Alive, Ended, Life, PlainProcess, answer_to, without_message, begun, pid_eq-is, pid_eq-same, is_kill, take, drop, by_step, is_some, seen, arith, LifeGrows}
+use Rattle.dm_rulelaws.proofs.Names.{Alive, Ended, Life, PlainProcess, answer_to, without_message, begun, pid_eq-is, pid_eq-same, is_kill, take, drop, by_step, is_some, seen, arith, LifeGrows, is_alive, is_server, ◌||◌}
 use Rattle.dm_rule.proofs.Changes.{Lives}
-use Rattle.dm_rulelaws.proofs.Based.Needs.{Resting, Serves, Unborn, Living, Queues, Leaving, Calling, Needs, Rides, Keeps, TellsEnd}
+use Rattle.dm_rulelaws.proofs.Based.Needs.{Resting, Serves, Unborn, Queues, Leaving, Calling, Needs, Rides, Keeps, TellsEnd}
 pub use Rattle.dm_rulelaws.proofs.Based.Needs.{life_sort, is_over}
 use Rattle.dm_onekernel.specs.Step as kernel
 use Rattle.dm_rule.specs.View as view
@@ -36,6 +36,10 @@ stays_over (Some (Ended y)) b grows e = ap is_over grows
 
 pub living_alike : (a b : Option Life) → life_sort a ≡ life_sort b → is_some (kernel.alive a) ≡ is_some (kernel.alive b)
 living_alike a b e = search arith
+
+-- who lived before still does, and a server does
+pub alive_alike : (s t : OneKernel) (p : Pid) → life_sort (t.processes p) ≡ life_sort (s.processes p) → is_alive s p ≡ is_alive t p
+alive_alike s t p e = ap (λ (c : Bool). is_server p || c) (sym (living_alike (t.processes p) (s.processes p) e))
 
 -- one life is set, and the others stay
 pub record SetLife (s t : OneKernel) (p : Pid) (sort : Option Bool) : Type 0 where
@@ -127,10 +131,6 @@ step_lives s t l =
       no_room = λ id a b m image links is w. by (kernels.with_sent (without_message s id) (Some (answer_to m PlainWhat.NoRoom))) (Label.NoSpace id a b) is (λ q. refl);
     })
 
--- who lives goes on living
-pub life_of : (o : Option Life) → life_sort o ≡ Some true → (x : PlainProcess) × (o ≡ Some (Alive x))
-life_of o h1 = search arith
-
 pub step_alike : (s t : OneKernel) (e : Label) → is_steady e ≡ true → kernel.step s e ≡ Some t → Alike s t
 step_alike s t (Label.End p y) steady is = absurd (false≢true steady)
 step_alike s t (Label.Served id) steady is = absurd (false≢true steady)
@@ -185,11 +185,11 @@ pub record Loud (P : Point → Type 0) : Type 0 where
   pub created : (pt : Point) (t : OneKernel) (id : MsgId) (p : Pid) → Unborn pt.view p → Sane pt → kernel.step pt.kernel (Label.Created id p) ≡ Some t → P pt → P (moved pt (Line.Label (Label.Created id p)) t)
   pub queued : (pt : Point) (id : MsgId) → ((t : Told) → pt.view.told id ≡ Some t → Queues pt.view t id) → Sane pt → P pt → P (moved pt (Line.Queued id) pt.kernel)
   pub held : (pt : Point) (id : MsgId) → ((t : Told) → pt.view.told id ≡ Some t → has_nothing_held (pt.view.known pt.view.acting t.receiver) ≡ false) → Sane pt → P pt → P (moved pt (Line.Held id) pt.kernel)
-  pub frozen : (pt : Point) (p : Pid) → Living pt.kernel p → pt.view.known pt.view.acting p ≡ Here → P pt → P (moved pt (Line.Migration Stage.Frozen p) pt.kernel)
-  pub accepted : (pt : Point) (p : Pid) → Living pt.kernel p → is_away (pt.view.known pt.view.acting p) ≡ true → P pt → P (moved pt (Line.Migration Stage.Accepted p) pt.kernel)
+  pub frozen : (pt : Point) (p : Pid) → is_alive pt.kernel p ≡ true → pt.view.known pt.view.acting p ≡ Here → P pt → P (moved pt (Line.Migration Stage.Frozen p) pt.kernel)
+  pub accepted : (pt : Point) (p : Pid) → is_alive pt.kernel p ≡ true → is_away (pt.view.known pt.view.acting p) ≡ true → P pt → P (moved pt (Line.Migration Stage.Accepted p) pt.kernel)
   pub left : (pt : Point) (p : Pid) → Leaving pt.view p → P pt → P (moved pt (Line.Migration Stage.Left p) pt.kernel)
-  pub restarted : (pt : Point) (p : Pid) → Living pt.kernel p → is_here (pt.view.known pt.view.acting p) ≡ false → P pt → P (moved pt (Line.Migration Stage.Restarted p) pt.kernel)
-  pub stays_ : (pt : Point) (p : Pid) → Living pt.kernel p → is_here (pt.view.known pt.view.acting p) ≡ false → P pt → P (moved pt (Line.Stays p) pt.kernel)
+  pub restarted : (pt : Point) (p : Pid) → is_alive pt.kernel p ≡ true → is_here (pt.view.known pt.view.acting p) ≡ false → P pt → P (moved pt (Line.Migration Stage.Restarted p) pt.kernel)
+  pub stays_ : (pt : Point) (p : Pid) → is_alive pt.kernel p ≡ true → is_here (pt.view.known pt.view.acting p) ≡ false → P pt → P (moved pt (Line.Stays p) pt.kernel)
   pub sent_on : (pt : Point) (p : Pid) (n : ℕ) → P pt → P (moved pt (Line.SentOn p n) pt.kernel)
   pub called : (pt : Point) (p : Pid) (n : ℕ) → Calling pt.view p → P pt → P (moved pt (Line.Called p n) pt.kernel)
   pub buried : (pt : Point) (id : MsgId) (n : ℕ) → TellsEnd pt.kernel pt.view id → Sane pt → P pt → P (moved pt (Line.Buried id n) pt.kernel)
@@ -224,7 +224,9 @@ line_keeps P loud pt t (Line.Head (Step.Deliver a b k)) need sane is h = unmoved
 line_keeps P loud pt t (Line.Head (Step.Migrate p m)) need sane is h = unmoved_kernel P pt t (Line.Head (Step.Migrate p m)) is (quiet_line P loud pt (Line.Head (Step.Migrate p m)) refl (record { known = refl; ring = refl; queue = refl; held = refl; moves = refl }) refl sane h)
 line_keeps P loud pt t (Line.Head (Step.CallOff p m)) need sane is h = unmoved_kernel P pt t (Line.Head (Step.CallOff p m)) is (quiet_line P loud pt (Line.Head (Step.CallOff p m)) refl (record { known = refl; ring = refl; queue = refl; held = refl; moves = refl }) refl sane h)
 line_keeps P loud pt t (Line.Migration Stage.Asked p) need sane is h = unmoved_kernel P pt t (Line.Migration Stage.Asked p) is (quiet_line P loud pt (Line.Migration Stage.Asked p) refl (record { known = refl; ring = refl; queue = refl; held = refl; moves = refl }) refl sane h)
-line_keeps P loud pt t (Line.Migration Stage.StateTaken p) need sane is h = unmoved_kernel P pt t (Line.Migration Stage.StateTaken p) is (quiet_line P loud pt (Line.Migration Stage.StateTaken p) refl (record { known = refl; ring = refl; queue = refl; held = refl; moves = refl }) refl sane h)
+line_keeps P loud pt t (Line.Migration Stage.StateTaken p) need sane is h =
+    let l = Line.Migration Stage.StateTaken p in
+    unmoved_kernel P pt t l is (quiet_line P loud pt l refl (record { known = refl; ring = refl; queue = refl; held = refl; moves = refl }) refl sane h)
 line_keeps P loud pt t (Line.Migration Stage.MemoryTaken p) need sane is h = unmoved_kernel P pt t (Line.Migration Stage.MemoryTaken p) is (quiet_line P loud pt (Line.Migration Stage.MemoryTaken p) refl (record { known = refl; ring = refl; queue = refl; held = refl; moves = refl }) refl sane h)
 line_keeps P loud pt t (Line.Forwarded id m) need sane is h = unmoved_kernel P pt t (Line.Forwarded id m) is (quiet_line P loud pt (Line.Forwarded id m) refl (let i = forwarded_stays (handled pt.view id) (receiver_of (pt.view.told id)) in record { known = i.known; ring = i.ring; queue = i.queue; held = i.held; moves = i.moves }) (hushed pt.view (Line.Forwarded id m) refl).told sane h)
 line_keeps P loud pt t (Line.Proto id) need sane is h = unmoved_kernel P pt t (Line.Proto id) is (quiet_line P loud pt (Line.Proto id) refl (let i = proto_stays (handled pt.view id) (pt.view.told id) in record { known = i.known; ring = i.ring; queue = i.queue; held = i.held; moves = i.moves }) (hushed pt.view (Line.Proto id) refl).told sane h)

@@ -1,7 +1,7 @@
 -- What a line of a group needs, so that each line keeps what is known of processes; and a walk over a group's parts.
 use Rattle.dm_rulelaws.proofs.Names.{◌≡◌, ℕ, ◌==◌, Bool, true, false, List, [], ◌∷◌, length, refl, ap, ◌∙◌, subst, ⊤, if◌then◌else◌, Option, None, Some, Pid, MsgId, MessageKind, Stage, plain_kind, Boot, Label, PlainProcess, Alive, Ended, Life, Of}
 use Rattle.dm_rulelaws.proofs.Names.{OneKernel, bind-is, Step, Line, Load, View, Told, Unknown, Here, Frozen, Incoming, is_kernels, own_id, Receiver, Point, label_of, kernel_after, moved, after_line, after, Part, Says, Routes, Again, Owns, Transmits}
-use Rattle.dm_rulelaws.proofs.Names.{Spelled, lines_of, puts, goes_out, packet_line, spelled, is_away, is_here, group_of, group_is, is_kill, Sane, AllSayable, sane_line, part_sane, outcome_sayable, is_server, has_nothing_held, by_parts}
+use Rattle.dm_rulelaws.proofs.Names.{Spelled, lines_of, puts, goes_out, packet_line, spelled, is_away, is_here, group_of, group_is, is_kill, Sane, AllSayable, sane_line, part_sane, outcome_sayable, is_server, has_nothing_held, by_parts, is_alive}
 use Rattle.dm_rule.specs.Rule as rule
 
 -- nobody was made, alive or ended
@@ -47,7 +47,6 @@ pub record Queues (v : View) (t : Told) (id : MsgId) : Type 0 where
 pub record Leaving (v : View) (p : Pid) : Type 0 where
   pub to : ℕ
   pub frozen : v.known v.acting p ≡ Frozen to
-  pub server : is_server p ≡ false
   pub queue : v.queue v.acting p ≡ []
   pub held : v.held v.acting p ≡ []
 
@@ -55,7 +54,6 @@ pub record Leaving (v : View) (p : Pid) : Type 0 where
 pub record Calling (v : View) (p : Pid) : Type 0 where
   pub from : ℕ
   pub comes : v.known v.acting p ≡ Incoming from
-  pub server : is_server p ≡ false
 
 -- a process has ended, and no machine has it
 pub record Buries (s : OneKernel) (v : View) (p : Pid) : Type 0 where
@@ -82,16 +80,16 @@ Needs pt (Line.Put a b i k q) = ⊥
 Needs pt (Line.Packet a b k l) = ⊥
 Needs pt (Line.Queued i) = (t : Told) → pt.view.told i ≡ Some t → Queues pt.view t i
 Needs pt (Line.Held i) = (t : Told) → pt.view.told i ≡ Some t → has_nothing_held (pt.view.known pt.view.acting t.receiver) ≡ false
-Needs pt (Line.Migration Stage.Frozen p) = Living pt.kernel p × (pt.view.known pt.view.acting p ≡ Here)
+Needs pt (Line.Migration Stage.Frozen p) = (is_alive pt.kernel p ≡ true) × (pt.view.known pt.view.acting p ≡ Here)
 Needs pt (Line.Migration Stage.Asked p) = ⊤
-Needs pt (Line.Migration Stage.Accepted p) = Living pt.kernel p × (is_away (pt.view.known pt.view.acting p) ≡ true)
+Needs pt (Line.Migration Stage.Accepted p) = (is_alive pt.kernel p ≡ true) × (is_away (pt.view.known pt.view.acting p) ≡ true)
 Needs pt (Line.Migration Stage.StateTaken p) = ⊤
 Needs pt (Line.Migration Stage.MemoryTaken p) = ⊤
 Needs pt (Line.Migration Stage.Left p) = Leaving pt.view p
-Needs pt (Line.Migration Stage.Restarted p) = Living pt.kernel p × (is_here (pt.view.known pt.view.acting p) ≡ false)
+Needs pt (Line.Migration Stage.Restarted p) = (is_alive pt.kernel p ≡ true) × (is_here (pt.view.known pt.view.acting p) ≡ false)
 Needs pt (Line.Called p n) = Calling pt.view p
 Needs pt (Line.Buried id n) = TellsEnd pt.kernel pt.view id
-Needs pt (Line.Stays p) = Living pt.kernel p × (is_here (pt.view.known pt.view.acting p) ≡ false)
+Needs pt (Line.Stays p) = (is_alive pt.kernel p ≡ true) × (is_here (pt.view.known pt.view.acting p) ≡ false)
 Needs pt _ = ⊤
 
 -- what puts and packets keep

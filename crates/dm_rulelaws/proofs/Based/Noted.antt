@@ -14,6 +14,7 @@ use Rattle.dm_rulelaws.proofs.Based.Groups.{Begins, begins}
 use Rattle.dm_rulelaws.proofs.Based.Needs.{Resting}
 use Rattle.dm_rulelaws.proofs.Based.Rows.{turned, resting, unborn}
 use Rattle.dm_rulelaws.proofs.Based.Sets.{set_all, killed_or}
+use Rattle.dm_rule.proofs.Phases.EndLines.{taken_known}
 
 -- all processes but one, if there is one
 abbrev pub Apart : Option Pid → Pid → Type 0
@@ -83,9 +84,6 @@ buried_here v (Some t) m q e = by t.about e
     by (view.Of p) e_ = set_here v (view.forgotten v (view.Of p)) p Unknown refl (λ f. absurd (false≢true f)) m q e_
     by _ e_ = e_
 
-taken_here : (v : View) (b : ℕ) (o : Option MsgId) (m : ℕ) (p : Pid) → (view.taken_id v b o).known m p ≡ v.known m p
-taken_here v b o m p = search arith
-
 line_here : (v : View) (l : Line) → IsCalm l → (m : ℕ) (q : Pid) → is_here ((view_after v l).known m q) ≡ true → is_here (v.known m q) ≡ true
 line_here v (Line.Label l) calm = search (arith, set_here, served_here, same_here, dropped_known)
 line_here v (Line.Head (Step.Turn m)) calm = λ n q e. e
@@ -99,7 +97,7 @@ line_here v (Line.Forwarded i to) calm = same_here v (view_after v (Line.Forward
 line_here v (Line.Proto i) calm = same_here v (view_after v (Line.Proto i)) (proto_known (handled v i) (v.told i))
 line_here v (Line.Taken a b n) calm =
     let p = v.pair a b in
-    same_here v (view_after v (Line.Taken a b n)) (taken_here (view.with_pair v a b (record p { taken = p.taken + 1; kept = filter (λ k. not (k == n)) p.kept })) b (oldest p))
+    same_here v (view_after v (Line.Taken a b n)) (taken_known (view.with_pair v a b (record p { taken = p.taken + 1; kept = filter (λ k. not (k == n)) p.kept })) b (oldest p))
 line_here v (Line.Migration Stage.Frozen p) calm = let set = sets v p v.topic in set_here v (view_after v (Line.Migration Stage.Frozen p)) p (Frozen (aim v v.topic)) set.known (λ e. absurd (false≢true e))
 line_here v (Line.Migration Stage.Accepted p) calm = set_here v (view_after v (Line.Migration Stage.Accepted p)) p (Incoming (front_of (v.inbox v.acting))) refl (λ e. absurd (false≢true e))
 line_here v (Line.Migration Stage.Left p) calm = set_here v (view_after v (Line.Migration Stage.Left p)) p (gone_to (v.known v.acting p) (v.moves p + 1)) refl (gone_here (v.known v.acting p) (v.moves p + 1))
@@ -258,7 +256,7 @@ sets_keeps pt id m to there rests w is h =
     let on = leaves_away mid m.to (record { here = rests.here; away = rests.away }) (asked_away pt g.kernel id m there g.step h) in
     subst (At None) (k.point ∙ g.point) (parts_away None ps (moved mid f k.kernel) k.rest (tt, (tt, tt)) k.is (subst (λ (u : OneKernel). At None (moved mid f u)) same on))
 
-or_true : (c : Bool) → (c || true) ≡ true
+pub or_true : (c : Bool) → (c || true) ≡ true
 or_true c = search arith
 
 -- rows of a turn
@@ -305,7 +303,7 @@ handles_keeps b o m id msg ps begins there =
           (let child = pid_of m (first_number + o.kernel.made m) in
           let born = unborn o m begins.rooted in
           comes_keeps pt (Line.Label (Label.Created id child)) child (Routes (pieces.answer_id id) ∷ []) refl (λ t step. step_notes pt.kernel t (Label.Created id child) step)
-          (λ n noted. (let (x, alive) = begins.sane.sound.notes.lives child n noted in begins.known.home child born.server (ap (λ (c : Bool). is_server child || c) (ap (λ (l : Option Life). is_some (kernel.alive l)) alive) ∙ or_true (is_server child)) (born.unknown child.home))) (tt, tt));
+          (λ n noted. (let (x, alive) = begins.sane.sound.notes.lives child n noted in begins.known.home child (ap (λ (c : Bool). is_server child || c) (ap (λ (l : Option Life). is_some (kernel.alive l)) alive) ∙ or_true (is_server child)) (born.unknown child.home))) (tt, tt));
       no_space = λ fixed slots blocks. calm (rule.says (Label.NoSpace id slots blocks) ∷ Routes (pieces.answer_id id) ∷ []) (tt, (tt, tt));
       took = λ fixed sent. calm (rule.says (Label.Took id) ∷ rule.routes sent) (tt, routes_calm sent);
       queued = λ to user. calm (Says (Line.Queued id) ∷ []) (tt, tt);
@@ -332,7 +330,7 @@ hears_keeps b o m i q ps begins =
     by_hears (Keeps pt) b o m i q ps (λ t there. record {
       buried = λ p about kind. calm (Says (Line.Buried i (length (preds_of o m p))) ∷ buries o m p) (tt, buries_calm (preds_of o m p));
       stale = λ p about late. calm (Says (Line.Stale i) ∷ []) (tt, tt);
-      told = λ p x about alive due. record {
+      told = λ p x about sized due. record {
         accepted = λ ask. calm (Says (Line.Migration Stage.Accepted p) ∷ to_kernel MessageKind.PullState i.from.home ∷ []) (tt, (tt, tt));
         lacks = λ slots blocks. calm (Says (Line.Lacks p slots blocks) ∷ to_kernel MessageKind.Refuse i.from.home ∷ []) (tt, (tt, tt));
         stays = λ kind free. comes_keeps pt (Line.Stays p) p [] refl (λ t step. none_notes pt.kernel t step) (λ n noted. none_free (pt.kernel.notes p) n free noted) tt;
@@ -342,6 +340,7 @@ hears_keeps b o m i q ps begins =
         last_chunk = calm (Says (Line.Migration Stage.StateTaken p) ∷ to_kernel MessageKind.PullBlock i.from.home ∷ []) (tt, (tt, tt));
         memory = calm (gives_piece i MessageKind.Memory) (tt, (tt, tt));
         next_block = calm (Says (Line.Proto i) ∷ to_kernel MessageKind.PullBlock i.from.home ∷ []) (tt, (tt, tt));
+        server_chunk = λ server. calm (Says (Line.Migration Stage.StateTaken p) ∷ Says (Line.Migration Stage.MemoryTaken p) ∷ to_kernel MessageKind.AllTaken i.from.home ∷ []) (tt, (tt, (tt, tt)));
         last_block = calm (Says (Line.Migration Stage.MemoryTaken p) ∷ to_kernel MessageKind.AllTaken i.from.home ∷ []) (tt, (tt, tt));
         left = λ ids to leaves. calm (left_parts i p ids to) (tt, sends_calm to ids (Says (Line.Migration Stage.Left p) ∷ to_kernel MessageKind.Restart i.from.home ∷ []) (tt, (tt, tt)));
         restarted = λ kind free. comes_keeps pt (Line.Migration Stage.Restarted p) p [] refl (λ t step. none_notes pt.kernel t step) (λ n noted. none_free (pt.kernel.notes p) n free noted) tt;
@@ -368,7 +367,7 @@ outcome_keeps b pt d ps h known = by_outcome (λ x xs. Keeps (moved pt (Line.Hea
   hears = λ m i is xs box none e. hears_keeps b pt m i (pt.view.told i) xs (begins pt m h known) e;
   ticks = λ m xs net. calm_keeps (moved pt (Line.Head (Step.Tick m)) pt.kernel) xs ((by_net AllCalm tt (λ l ps net h. (net_calm l net, h)) (λ a b l ps h. (tt, h))) xs net);
   delivers = λ a c k xs net. calm_keeps (moved pt (Line.Head (Step.Deliver a c k)) pt.kernel) xs ((by_net AllCalm tt (λ l ps net h. (net_calm l net, h)) (λ a b l ps h. (tt, h))) xs net);
-  asks = λ p m. calm_keeps (moved pt (Line.Head (Step.Migrate p m)) pt.kernel) (migrates pt p) (by_migrates AllCalm pt p (tt, tt) (tt, tt) (λ n off is. (tt, tt)));
+  asks = λ p m. calm_keeps (moved pt (Line.Head (Step.Migrate p m)) pt.kernel) (migrates pt p) (by_migrates AllCalm pt p (tt, tt) (tt, tt) (λ a here knows. (tt, tt)));
   calls = λ p m. calm_keeps (moved pt (Line.Head (Step.CallOff p m)) pt.kernel) (calls_off pt m p (pt.view.known m p)) (by_calls_off AllCalm pt m p (tt, tt) (λ from is come. (tt, sends_calm from (pt.view.held m p) (to_kernel MessageKind.CallOff from ∷ []) (tt, tt))));
 })
 

@@ -277,7 +277,7 @@ lists_unheld s v w p k known queue held no_queue h =
 lists_rejoins : (s : OneKernel) (v w : View) (p : Pid) → w.known ≡ at_record v.known v.acting p Here → w.queue ≡ v.queue → w.held ≡ at_record v.held v.acting p [] → LiveLists s v → LiveLists s w
 lists_rejoins s v w p known queue held h = lists_unheld s v w p Here known queue held (λ e live. absurd (false≢true e)) h
 
-away_queue : (k : Known) → is_away k ≡ true → has_no_queue k ≡ true
+pub away_queue : (k : Known) → is_away k ≡ true → has_no_queue k ≡ true
 away_queue k h1 = search arith
 
 away_held : (k : Known) → is_away k ≡ true → has_nothing_held k ≡ true

@@ -2,11 +2,11 @@
 use Rattle.dm_rulelaws.proofs.Names.{◌≡◌, ℕ, ◌+◌, ◌==◌, Bool, true, false, List, [], ◌∷◌, ap, ◌∙◌, sym, subst, if◌then◌else◌, Option, Some, arith, Pid, pid_of, MsgId, MessageKind, Label, Step, Line, plain_kind, PlainMessage, Boot}
 use Rattle.dm_rulelaws.proofs.Names.{first_number, PlainProcess, not_server, alive-is, View, Told, Known, Here, Addresses, Point, moved, Part, Says, Routes, is_away, is_here, Phase, Rests, knows, forwards_on, not_kernels, Sane, InPhases}
 use Rattle.dm_rulelaws.proofs.Names.{rests_here, Rooted, has_nothing_held, Stops, by_round, by_handles, by_forwards, answers_move, leaves_for, Outcome, OneKernel, KnownStands, is_server, ◌++◌, ◌||◌, map, to_kernel, buries, ends_with}
-use Rattle.dm_rulelaws.proofs.Names.{is_some, manager, nat_tests, pid_eq, preds_of, switchboard, Made}
+use Rattle.dm_rulelaws.proofs.Names.{is_some, manager, nat_tests, pid_eq, preds_of, refl, switchboard, Made, is_alive, Stage, Life, agrees}
 use Rattle.dm_onekernel.specs.Pieces as pieces
 use Rattle.dm_onekernel.specs.Step as kernel
 use Rattle.dm_rule.specs.Rule as rule
-use Rattle.dm_rulelaws.proofs.Based.Loud.{life_of, step_alike}
+use Rattle.dm_rulelaws.proofs.Based.Loud.{alive_alike, step_alike}
 use Rattle.dm_rulelaws.proofs.Based.Needs.{Resting, Serves, Unborn, Living, Queues, Walks, WalksOf, AllLoose, loose_walks, first_walks, said_by, begun}
 
 -- the point behind the head of a turn
@@ -105,11 +105,26 @@ routes_loose o = search arith
 pub unborn : (o : Point) (m : ℕ) → Rooted o → Unborn (turned o m).view (pid_of m (first_number + o.kernel.made m))
 unborn o m h = search (arith, o.kernel.made, h.unborn)
 
-asks_walks : (pt : Point) (p : Pid) (id : MsgId) (to : ℕ) → Living pt.kernel p → pt.view.known pt.view.acting p ≡ Here → Walks pt (rule.says (Label.Asked id) ∷ leaves_for p to)
-asks_walks pt p id to lives here = search (arith, said_by, first_walks, pt.kernel, step_alike, life_of)
+asks_walks : (pt : Point) (p : Pid) (id : MsgId) (to : ℕ) → is_alive pt.kernel p ≡ true → pt.view.known pt.view.acting p ≡ Here → Walks pt (rule.says (Label.Asked id) ∷ leaves_for p to)
+asks_walks pt p id to lives here = (
+  tt,
+  λ next s.
+      let l = Line.Label (Label.Asked id) in
+      let g = said_by pt next l s in
+      let alive : is_alive g.kernel p ≡ true = sym (alive_alike pt.kernel g.kernel p (step_alike pt.kernel g.kernel (Label.Asked id) refl g.step p)) ∙ lives in
+      subst (λ (z : Point). Walks z (leaves_for p to)) g.is (first_walks (Says (Line.Migration Stage.Frozen p)) (Says (Line.Migration Stage.Asked p) ∷ to_kernel MessageKind.Ask to ∷ []) (moved pt l g.kernel) (alive, here) (λ q. tt, (λ q. tt, tt))),
+)
 
-pub known_living : (s : OneKernel) (v : View) (m : ℕ) (p : Pid) → KnownStands s v → is_server p ≡ false → v.known m p ≡ Here → Living s p
-known_living s v m p h server here = search (arith, h.agree)
+-- what is here lives, or is a server
+here_alive : (o : Option Life) → agrees Here o ≡ true → is_some (kernel.alive o) ≡ true
+here_alive o e = search arith
+
+pub known_alive : (s : OneKernel) (v : View) (m : ℕ) (p : Pid) → KnownStands s v → v.known m p ≡ Here → is_alive s p ≡ true
+known_alive s v m p h here = by (is_server p) refl
+  where
+    by : (c : Bool) → is_server p ≡ c → is_alive s p ≡ true
+    by true e = ap (λ (c : Bool). c || is_some (kernel.alive (s.processes p))) e
+    by false e = ap (λ (c : Bool). c || is_some (kernel.alive (s.processes p))) e ∙ here_alive (s.processes p) (sym (ap (λ (k : Known). agrees k (s.processes p)) here) ∙ h.agree m p e)
 
 pub handles_walks : (b : Boot) (o : Point) (m : ℕ) (id : MsgId) (msg : PlainMessage) → Sane (turned o m) → InPhases (turned o m).view → Rooted o → KnownStands o.kernel o.view → Front (turned o m) id msg → WalksOf (turned o m) (rule.handles b o m id msg)
 handles_walks b o m id msg sane phases rooted known f =
@@ -124,7 +139,7 @@ handles_walks b o m id msg sane phases rooted known f =
       answers = λ to mild i. first_walks (rule.says (Label.Served id)) (Routes i ∷ []) pt (front_serves pt id msg sane phases f to.known) (λ q. tt, tt);
       kills = λ to kills. first_walks (rule.says (Label.Served id)) (ends_with o m msg.to) pt (front_serves pt id msg sane phases f to.known) (ends_loose o m msg.to);
       moved = λ to what. loose_walks (rule.says (Label.Asked id) ∷ answers_move id Outcome.Done) pt (λ q. tt, (λ q. tt, (λ q. tt, tt)));
-      sets_off = λ n to what apart. asks_walks pt msg.to id n (known_living o.kernel o.view m msg.to known to.process to.known) to.known;
+      sets_off = λ n to what apart. asks_walks pt msg.to id n (known_alive o.kernel o.view m msg.to known to.known) to.known;
       gone = λ to. loose_walks (rule.says (Label.Gone id) ∷ Routes (pieces.answer_id id) ∷ []) pt (λ q. tt, (λ q. tt, tt));
       dropped = λ to. loose_walks (rule.says (Label.Dropped id) ∷ []) pt (λ q. tt, tt);
       leaving = λ n to. first_walks (Says (Line.Held id)) [] pt (front_held pt id msg sane f (ap has_nothing_held to.known)) tt;

@@ -1,7 +1,7 @@
 -- Before the first line, what machines know agrees with the kernel without machines.
 use Rattle.dm_rulelaws.proofs.Names.{◌≡◌, ℕ, ◌+◌, ◌==◌, ◌&&◌, ◌||◌, Bool, true, false, List, [], ◌∷◌, ◌++◌, map, refl, ap, ◌∙◌, sym, ◌≢◌, is_some, nat_lt, inl, inr, arith, if◌then◌else◌, slice_get, option_map, Option, None, Some}
 use Rattle.dm_rulelaws.proofs.Names.{cases_Bool, false≢true, nat_tests, Pid, pid_eq, plain_link, BootImage, BootProcess, Boot, IsValid, switchboard, manager, starting_at, processes_are_valid, Life, Alive, begun, first_life, life_at}
-use Rattle.dm_rulelaws.proofs.Names.{pid_eq-is, pid_eq-same, pid_eq-swap, first_point, Known, known_at, ring_at, is_server, KnownStands, agrees, server_at, rings, turns_here, eq_self}
+use Rattle.dm_rulelaws.proofs.Names.{pid_eq-is, pid_eq-same, pid_eq-swap, first_point, Known, known_at, ring_at, is_server, KnownStands, agrees, rings, turns_here, eq_self}
 use Rattle.dm_onekernel.specs.Step as kernel
 use Rattle.dm_rulelaws.proofs.Fits.Rises.{both}
 use Rattle.dm_rulelaws.proofs.Fits.Start.{get_some}
@@ -127,12 +127,6 @@ is_first b m q c valid e = known_first b [] b.processes m q valid.processes ∙ 
 server_home : (q : Pid) (c : Bool) → pid_eq q switchboard ≡ c → (c || pid_eq q manager) ≡ true → (q.home ≡ 0) × (nat_lt q.num 3 ≡ true)
 server_home q c h1 h2 = search arith
 
-server_first : (b : Boot) (m : ℕ) (q : Pid) → IsValid b → is_server q ≡ true → known_at b.processes m q ≡ server_at m
-server_first b m q valid e =
-    let home = (server_home q (pid_eq q switchboard) refl e).0 in
-    let same : (q.home == m) ≡ (m == 0) = grind (arith, nat_tests) in
-    is_first b m q true valid e ∙ ap (λ (c : Bool). if c then Known.Here else Known.Unknown) same
-
 server_none : (b : Boot) (q : Pid) → IsValid b → is_server q ≡ true → life_at b b.processes q ≡ None
 server_none b q valid e = search (arith, server_home, none_later, b.processes, valid.processes, q.num, q.home)
 
@@ -155,11 +149,17 @@ some_first (Some (Alive x)) lives e = cc
 some_first (Some (Life.Ended y)) lives e = false≢true lives
 some_first None lives e = false≢true lives
 
+-- a server is at home, and so is a process that lives
+home_first : (b : Boot) (q : Pid) (c : Bool) → IsValid b → is_server q ≡ c → (c || is_some (kernel.alive (life_at b b.processes q))) ≡ true → known_at b.processes q.home q ≢ Known.Unknown
+home_first b q true valid e lives unknown =
+    let here : known_at b.processes q.home q ≡ Known.Here = is_first b q.home q true valid e ∙ ap (λ (c : Bool). if c then Known.Here else Known.Unknown) (eq_self q.home) in
+    let f : Known.Here ≡ Known.Unknown = sym here ∙ unknown in cc
+home_first b q false valid e lives unknown =
+    some_first (life_at b b.processes q) lives (sym (is_first b q.home q false valid e ∙ ap (λ (c : Bool). if c then known_of_life (life_at b b.processes q) else Known.Unknown) (eq_self q.home)) ∙ unknown)
+
 pub known_start : (b : Boot) → IsValid b → KnownStands (first_point b).kernel (first_point b).view
 known_start b valid = record {
-  server = λ m q e. server_first b m q valid e;
   agree = λ m q e. ap (λ (k : Known). agrees k (life_at b b.processes q)) (is_first b m q false valid e) ∙ agrees_first (q.home == m) (life_at b b.processes q);
-  home = λ q e lives unknown. some_first (life_at b b.processes q) (sym (ap (λ (c : Bool). c || is_some (kernel.alive (life_at b b.processes q))) e) ∙ lives)
-      (sym (is_first b q.home q false valid e ∙ ap (λ (c : Bool). if c then known_of_life (life_at b b.processes q) else Known.Unknown) (eq_self q.home)) ∙ unknown);
+  home = λ q lives. home_first b q (is_server q) valid refl lives;
   ring = λ m q. ring_by b m q (is_server q) valid refl;
 }

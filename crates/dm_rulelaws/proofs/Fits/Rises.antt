@@ -9,6 +9,7 @@ use Rattle.dm_onekernel.specs.Manager as manage
 use Rattle.dm_onekernel.specs.Pieces as pieces
 use Rattle.dm_onekernel.specs.Calls as calls
 use Rattle.dm_rulelaws.proofs.Calling.{by_call}
+pub use Rattle.dm_laws.proofs.Sound.{process_at as set_at}
 
 abbrev pub Rises : Lives → Lives → Type 0
 Rises ps qs = (p : Pid) (n : ℕ) → has_bytes n (ps p) ≡ true → has_bytes n (qs p) ≡ true
@@ -125,9 +126,6 @@ set_if T s p q life f h = search (arith, s.processes, pid_eq-is)
 pub set_rises : (s : OneKernel) (p : Pid) (life : Life) → ((n : ℕ) → has_bytes n (s.processes p) ≡ true → has_bytes n (Some life) ≡ true) → Rises s.processes (with_process s p life).processes
 set_rises s p life f q n h = set_if (λ (o : Option Life). has_bytes n o ≡ true) s p q life (λ same. f n) h
 
-pub set_at : (s : OneKernel) (p : Pid) (life : Life) → (with_process s p life).processes p ≡ Some life
-set_at s p life = ap (λ (c : Bool). if c then Some life else s.processes p) (pid_eq-same p)
-
 pub set_fits : (s : OneKernel) (p : Pid) (life : Life) → Becomes s p life → KernelFits s → KernelFits (with_process s p life)
 set_fits s p life b h = carries s (with_process s p life) (record {
   rises = set_rises s p life b.bytes;
@@ -234,7 +232,7 @@ requests_fit ps p x z Direction.IntoArea owner base own left memory links has wi
     grind (arith, nat_tests, z.memory, two, has_less, z.sent, eq_self)
 
 -- a link with a right leads to a process whose memory has its area
-right_is : (ps : Lives) (l : PlainLink) (dir : Direction) → calls.lacks_right dir l.area ≡ false → LinkFits ps l → has_bytes (l.area.base + l.area.len) (ps l.to) ≡ true
+pub right_is : (ps : Lives) (l : PlainLink) (dir : Direction) → calls.lacks_right dir l.area ≡ false → LinkFits ps l → has_bytes (l.area.base + l.area.len) (ps l.to) ≡ true
 right_is ps l dir h1 h2 = search (arith, l.to, l.area.read, l.area.write, l.area.base, l.area.len)
 
 -- a slot is set

@@ -2,14 +2,16 @@
 use Rattle.dm_rulelaws.proofs.Names.{◌≡◌, ◌≢◌, ℕ, ◌<◌, ◌≤◌, ◌==◌, ◌&&◌, Bool, true, false, is_some, List, [], ◌∷◌, ◌++◌, length, refl, ap, ◌∙◌, sym, subst, inl, inr, arith, if◌then◌else◌, Option, None, Some, cases_Bool, false≢true}
 use Rattle.dm_rulelaws.proofs.Names.{nat_tests, Pid, pid_eq, MsgId, PlainMessage, BootProcess, Boot, IsValid, processes_are_valid, first_life, life_at, Step, View, Told, Unknown, Here, is_kernels, known_at, first_view, Holder, Receiver}
 use Rattle.dm_rulelaws.proofs.Names.{names, to_of, IsStep, Spelled, Point, first_point, group_of, Spot, StandsOutside, standing, stands_right, Homes-start, Phased, Goes, Named, Links, Found, machine_of, is_fixed, times, receiver_of, Comes}
-use Rattle.dm_rulelaws.proofs.Names.{Sender, manager, ◌||◌, Alive, Ended, Life, Lives, OneKernel, Why, is_alive, is_server, not_true, or_first}
+use Rattle.dm_rulelaws.proofs.Names.{Sender, manager, ◌||◌, Alive, Ended, Life, Lives, OneKernel, Why, is_alive, is_made, is_server, not_true, Made}
 use Rattle.dm_rule.proofs.Trails.Places.{Owns}
 use Rattle.dm_rulelaws.proofs.Fits.Start.{start_fits}
 use Rattle.dm_onekernel.specs.Step as kernel
 use Rattle.dm_rulelaws.proofs.Based.Needs.{is_over}
+use Rattle.dm_rulelaws.proofs.Based.Rows.{made_server}
+use Rattle.dm_rulelaws.proofs.Based.Start.{known_start}
 use Rattle.dm_rulelaws.proofs.Found.Core.{There, KnowsAt, Knows, IsReal, AboutIs, KnownIs, LineCore, Core, lines_of_core, known_within}
 use Rattle.dm_rulelaws.proofs.Found.Groups.{core_group}
-use Rattle.dm_rulelaws.proofs.Found.Real.{named_real}
+use Rattle.dm_rulelaws.proofs.Found.Real.{named_real, server_real}
 
 -- what each group keeps
 abbrev pub FoundBy : Point → Type 0
@@ -44,9 +46,14 @@ start_home b (p ∷ ps) q made = elim (cases_Bool (pid_eq p.pid q)) [
 ]
 
 -- a process of the boot file is known where it is at home, and that is a machine that there is
-home_there : (b : Boot) (q : Pid) → IsValid b → 0 < length b.machines → is_some (life_at b b.processes q) ≡ true → There (length b.machines) (first_point b).kernel.processes (first_view b) q.home q
+-- so is a server
+known_home : (b : Boot) (q : Pid) (c : Bool) → IsValid b → is_server q ≡ c → (c || is_some (life_at b b.processes q)) ≡ true → known_at b.processes q.home q ≢ Unknown
+known_home b q true valid server made = (known_start b valid).home q (ap (λ (c : Bool). c || is_some (kernel.alive (life_at b b.processes q))) server)
+known_home b q false valid server made = start_home b b.processes q made
+
+home_there : (b : Boot) (q : Pid) → IsValid b → 0 < length b.machines → is_made (first_point b).kernel q ≡ true → There (length b.machines) (first_point b).kernel.processes (first_view b) q.home q
 home_there b q valid some made =
-    let known = start_home b b.processes q made in
+    let known = known_home b q (is_server q) valid refl made in
     (known_within (length b.machines) (first_point b).kernel.processes (first_view b) q.home q (known_at b.processes q.home q) known (start_knows b (first_point b).kernel.processes (first_view b) [] b.processes q.home q valid.processes some), λ lives. known)
 
 pub found_start : (b : Boot) → IsValid b → FoundBy (first_point b)
@@ -130,13 +137,18 @@ free_known n l v q m free lives knows real = elim knows [
 ]
 
 -- who lives hasn't ended
-lives_on : (s : OneKernel) (q : Pid) → is_fixed q ≡ false → is_alive s q ≡ true → is_over (s.processes q) ≡ false
-lives_on s q free lives =
-    let server : is_server q ≡ false = not_true (is_server q) (λ e. false≢true (sym free ∙ or_first (q.num == 0) (is_server q) e)) in
-    by (s.processes q) (sym (ap (λ (c : Bool). c || is_some (kernel.alive (s.processes q))) server) ∙ lives)
-  where
-    by : (o : Option Life) → is_some (kernel.alive o) ≡ true → is_over o ≡ false
-    by o e = search arith
+pub over_some : (o : Option Life) → is_over o ≡ true → is_some o ≡ true
+over_some o e = search arith
+
+over_dead : (o : Option Life) → is_over o ≡ true → is_some (kernel.alive o) ≡ false
+over_dead o e = search arith
+
+lives_on : (s : OneKernel) (q : Pid) → Made s → is_alive s q ≡ true → is_over (s.processes q) ≡ false
+lives_on s q made lives = not_true (is_over (s.processes q)) (λ over. (
+    let server : is_server q ≡ false = made_server s q made (over_some (s.processes q) over) in
+    let dead : is_alive s q ≡ false = ap (λ (c : Bool). c || is_some (kernel.alive (s.processes q))) server ∙ over_dead (s.processes q) over in
+    false≢true (sym dead ∙ lives)
+    ))
 
 fixed_home : (n : ℕ) (l : Lives) (v : View) (q : Pid) (m : ℕ) → is_fixed q ≡ true → KnowsAt n l v q m → m ≡ q.home
 fixed_home n l v q m fixed knows = search arith
@@ -149,11 +161,11 @@ found_of pt base h =
     record {
       told = λ i z e. (h.places i z e).1;
       at_ = λ i z e. (h.places i z e).0;
-      process = λ i z t e told free lives. let k = stands_named pt i z t (pt.kernel.bag i) base h e told refl in free_known n l v t.receiver (machine_of z) free (lives_on pt.kernel t.receiver free lives) (subst (KnowsAt n l v t.receiver) (h.places i z e).0 k.0) k.1;
+      process = λ i z t e told free lives. let k = stands_named pt i z t (pt.kernel.bag i) base h e told refl in free_known n l v t.receiver (machine_of z) free (lives_on pt.kernel t.receiver base.sane.sound.made lives) (subst (KnowsAt n l v t.receiver) (h.places i z e).0 k.0) k.1;
       fixed = λ i z t e told fixed. let k = stands_named pt i z t (pt.kernel.bag i) base h e told refl in fixed_home n l v t.receiver (machine_of z) fixed (subst (KnowsAt n l v t.receiver) (h.places i z e).0 k.0);
       within = λ g q e. known_there pt q (pt.addresses g).at h (h.all g q (Links e)) (named_real pt n g q h e);
       own_within = λ i t told own. known_there pt t.receiver (pt.addresses (Receiver i)).at h (h.all (Receiver i) t.receiver (Owns (Goes i t refl own told refl))) (h.real i t told own).0;
-      asker_within = λ i t told own move. subst (λ (k : ℕ). k < n) (sym (fixed_home n l v manager (pt.addresses (Sender i)).at refl (h.all (Sender i) manager (Owns (Comes i t refl own told move refl))))) (let le = h.acting in omega (arith, le));
+      asker_within = λ i t told own move. known_there pt manager (pt.addresses (Sender i)).at h (h.all (Sender i) manager (Owns (Comes i t refl own told move refl))) (server_real pt n manager (lines_of_core n pt h) refl);
       target_within = λ i t m told about. subst (AboutIs n l v) about (h.tells i t told);
       forward_within = λ m k j p e. (subst (KnownIs n l v m p) e (h.known m p)).1.0;
       frozen_within = λ m k p e. (subst (KnownIs n l v m p) e (h.known m p)).1;

@@ -2,24 +2,24 @@
 use Rattle.dm_rulelaws.proofs.Names.{◌≡◌, ◌≢◌, ◌⊎◌, ℕ, ◌<◌, ◌==◌, ◌&&◌, Bool, true, false, is_some, refl, ap, ◌∙◌, sym, subst, inl, inr, ⊤, if◌then◌else◌, Option, Some, cases_Bool, Pid, Place, pid_eq, MsgId, PlainMessage, pid_eq-is}
 use Rattle.dm_rulelaws.proofs.Names.{at_record, View, Told, About, Target, Known, Unknown, Frozen, Incoming, Forward, is_kernels, Addresses, Receiver, ascends, Point, eq_is, parts, is_own, KernelFits, is_fixed, times, receiver_of, ◌≤◌}
 use Rattle.dm_rulelaws.proofs.Names.{None, false≢true, id_eq, MessageKind, Line, manager, id_eq-is, after_put, Sender, given, own_given, first_gives, moved, not_true, put_at, put_told_off, sort_of, List, [], ◌∷◌, ◌++◌, arith, own_id}
-use Rattle.dm_rulelaws.proofs.Names.{view_after, handled, forwarded_for, forward_about, place_known, all_follow, forwards, updated, Spot, standing, one_of, Named, zero_cases, flip_zero, goes_back, Lives}
+use Rattle.dm_rulelaws.proofs.Names.{view_after, handled, forwarded_for, forward_about, place_known, all_follow, forwards, updated, Spot, standing, one_of, Named, zero_cases, flip_zero, goes_back, Lives, is_made, is_server, OneKernel, ◌||◌}
 use Rattle.dm_rulelaws.proofs.Found.Lists.{Places, places_put, places_line, places_handled, places_forwarded, AllAre, all_as, put_all, put_routed, put_again, put_tells, routed_gives, forwarded_all, sent_on_all, updated_all, updated_leaves}
 use Rattle.dm_rulelaws.proofs.Found.Lists.{Sends, places_forgotten}
 use Rattle.dm_rulelaws.proofs.Based.Needs.{is_over}
 use Rattle.dm_rule.specs.View as view
 
--- there is this machine, and it knows the process, if that hasn't ended
+-- there is this machine, and it knows the process or the server, if that hasn't ended
 abbrev pub There : ℕ → Lives → View → ℕ → Pid → Type 0
 There n l v m q = (m < n) × (is_over (l q) ≡ false → v.known m q ≢ Unknown)
 
--- a process is at home there, or known; kernels and servers are at home
+-- a process or a server is at home there, or known; kernels are at home
 abbrev pub KnowsAt : ℕ → Lives → View → Pid → ℕ → Type 0
 KnowsAt n l v q m = (m ≡ q.home) ⊎ ((is_fixed q ≡ false) × There n l v m q)
 
 abbrev pub Knows : ℕ → Lives → View → Pid → Place → Type 0
 Knows n l v q place = KnowsAt n l v q place.at
 
--- a kernel or server of one of so many machines, or a process whose home knows it
+-- a kernel of one of so many machines, or a process or a server whose home knows it
 abbrev pub IsReal : ℕ → Lives → View → Pid → Type 0
 IsReal n l v q = ((is_fixed q ≡ true) × (q.home < n)) ⊎ There n l v q.home q
 
@@ -32,8 +32,8 @@ AboutIs n l v (Target m) = m < n
 AboutIs n l v (About.Place p m c) = KnowsAt n l v p m
 AboutIs n l v _ = ⊤
 
--- what a machine knows of a process names machines that there are, and a forward one that knows the process; neither kernels
--- nor servers move
+-- what a machine knows of a process names machines that there are, and a forward one that knows the process; no kernel
+-- moves
 abbrev pub KnownIs : ℕ → Lives → View → ℕ → Pid → Known → Type 0
 KnownIs n l v m p Unknown = ⊤
 KnownIs n l v m p (Frozen to) = (m < n) × (to < n) × (is_fixed p ≡ false)
@@ -56,7 +56,7 @@ pub record LineCore (n : ℕ) (pt : Point) : Type 0 where
   pub places : Places (IsAt pt.addresses pt.view) pt.view
   pub senders : (i : MsgId) (m : PlainMessage) → pt.kernel.bag i ≡ Some m → Sends n pt.kernel m.sender
   pub fits : KernelFits pt.kernel
-  pub home : (q : Pid) → is_some (pt.kernel.processes q) ≡ true → There n pt.kernel.processes pt.view q.home q
+  pub home : (q : Pid) → is_made pt.kernel q ≡ true → There n pt.kernel.processes pt.view q.home q
   pub pending : ascends 0 pt.kernel.manager.pending pt.kernel.manager.sent ≡ true
 
 -- and what each group keeps: that what is held for a process is for it, too
@@ -72,7 +72,7 @@ pub record Core (n : ℕ) (pt : Point) : Type 0 where
   pub held : (m : ℕ) (p : Pid) (i : MsgId) → 1 ≤ times i (pt.view.held m p) → receiver_of (pt.view.told i) ≡ Some p
   pub senders : (i : MsgId) (m : PlainMessage) → pt.kernel.bag i ≡ Some m → Sends n pt.kernel m.sender
   pub fits : KernelFits pt.kernel
-  pub home : (q : Pid) → is_some (pt.kernel.processes q) ≡ true → There n pt.kernel.processes pt.view q.home q
+  pub home : (q : Pid) → is_made pt.kernel q ≡ true → There n pt.kernel.processes pt.view q.home q
   pub pending : ascends 0 pt.kernel.manager.pending pt.kernel.manager.sent ≡ true
 
 pub lines_of_core : (n : ℕ) (pt : Point) → Core n pt → LineCore n pt
@@ -90,6 +90,17 @@ lines_of_core n pt h = record {
   home = h.home;
   pending = h.pending;
 }
+
+-- what was made is, and so is a server
+or_true : (c : Bool) → (c || true) ≡ true
+or_true true = refl
+or_true false = refl
+
+pub some_made : (s : OneKernel) (q : Pid) → is_some (s.processes q) ≡ true → is_made s q ≡ true
+some_made s q some = ap (λ (c : Bool). is_server q || c) some ∙ or_true (is_server q)
+
+pub server_made : (s : OneKernel) (q : Pid) → is_server q ≡ true → is_made s q ≡ true
+server_made s q server = ap (λ (c : Bool). c || is_some (s.processes q)) server
 
 -- what has ended stays so
 abbrev pub Older : Lives → Lives → Type 0

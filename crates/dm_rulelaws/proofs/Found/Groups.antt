@@ -1,37 +1,86 @@
 -- Each group keeps where addresses lead, what machines know, and where messages stand.
 use Rattle.dm_rulelaws.proofs.Names.{◌≡◌, ℕ, ◌<◌, ◌≤◌, Bool, true, false, is_some, List, ◌∷◌, refl, ap, ◌∙◌, sym, subst, inl, inr, arith, if◌then◌else◌, Option, None, Some, Pid, MsgId, plain_kind, PlainMessage, MessageKind, Boot, manager}
-use Rattle.dm_rulelaws.proofs.Names.{Step, id_eq-same, alive-is, Line, View, Told, About, Of, Unknown, Here, Frozen, Incoming, Forward, is_kernels, receiver_of, target_in, target_of, front_of, Child, Receiver, Sender, names, sender_of}
+use Rattle.dm_rulelaws.proofs.Names.{Step, id_eq-same, alive-is, Line, View, Told, About, Of, Unknown, Here, Frozen, Incoming, Forward, is_kernels, receiver_of, target_in, target_of, front_of, Receiver, Sender, sender_of}
 use Rattle.dm_rulelaws.proofs.Names.{IsStep, forwards_on, migrates, Part, Owns, Spelled, Moves, is_between, is_restart, is_early, knows, receiver_in, tells_onward, Point, moved, group_of, Inbox, Queue, Held, times, standing, group_is}
-use Rattle.dm_rulelaws.proofs.Names.{turn_off, letters, eq_is, both_lists, both_times, under_way, front_kernels, Phased, head_calm, InPhases, calm_phases, rooted, State, Sane, sane_line, outcome_sayable, Comes, Named, Links, child_is}
+use Rattle.dm_rulelaws.proofs.Names.{turn_off, letters, eq_is, both_lists, both_times, under_way, front_kernels, Phased, head_calm, InPhases, calm_phases, rooted, State, Sane, sane_line, outcome_sayable, Comes, Named, Links}
 use Rattle.dm_rulelaws.proofs.Names.{source_holds, destination_expects, is_fixed, eq_self, about_same, front_one, least_of, by_migrates, by_net, by_outcome, sort_of, slice_get, option_and_then, call_off, by_calls_off, coming_is}
 use Rattle.dm_rulelaws.proofs.Names.{source_knows, calls_off, is_calloff, pulls_piece, Due, due_or_left, Pulled, pulled, false≢true, Says, [], ◌≢◌, ◌==◌, Known, Lives, bury_over, is_away, kind_comes, kind_leaves, not, right_true}
+use Rattle.dm_rulelaws.proofs.Names.{Place, own_id, own_given, known_place, has_seat, given, acting_place, is_here, ◌∙◌}
+use Rattle.dm_rule.specs.Addresses.{unmoved}
+use Rattle.std.specs.Option.{unwrap_or}
+use Rattle.dm_rule.proofs.KnownPlaces.{known_by}
 use Rattle.dm_rule.proofs.Groups.{begun}
 use Rattle.dm_rule.proofs.Trails.Places.{Owns}
 use Rattle.dm_rulelaws.proofs.Found.Labels.{there_known, line_core}
-use Rattle.dm_rulelaws.proofs.Found.Core.{IsReal, AboutIs, KnownIs, LineCore, known_within}
+use Rattle.dm_rulelaws.proofs.Found.Core.{IsReal, Knows, KnowsAt, AboutIs, KnownIs, LineCore, known_within}
 use Rattle.dm_rulelaws.proofs.Found.Forward.{forwards_need, moves_back, leaves_need, calls_need, named_for}
-use Rattle.dm_rulelaws.proofs.Found.Parts.{AllNeed, NeedOf, AllLoose, loose_need, first_need, parts_core, Heard, told_by_need, round_need, handles_need, Moves as MovesTo}
-use Rattle.dm_rulelaws.proofs.Found.Real.{made_free, child_real, sends_real, has_some}
+use Rattle.dm_rulelaws.proofs.Found.Parts.{AllNeed, NeedOf, NeedsOwn, AllLoose, loose_need, first_need, parts_core, Heard, told_by_need, round_need, handles_need, Moves as MovesTo}
+use Rattle.dm_rulelaws.proofs.Found.Real.{made_free, named_by, server_real, sends_real, has_some}
 use Rattle.dm_rulelaws.proofs.Based.Needs.{is_over}
 use Rattle.dm_rulelaws.proofs.Found.Core.{NeedsOver, There}
 use Rattle.dm_rule.specs.Phases as phases
 use Rattle.dm_rule.specs.Rule as rule
 
 -- behind the head of a group
-abbrev headed : Point → Step → Point
+abbrev pub headed : Point → Step → Point
 headed pt d = moved pt (Line.Head d) pt.kernel
 
-head_sane : (pt : Point) (d : Step) → Sane pt → Sane (headed pt d)
+pub head_sane : (pt : Point) (d : Step) → Sane pt → Sane (headed pt d)
 head_sane pt d h = sane_line pt (headed pt d) (Line.Head d) refl refl h
 
 group_core : (n : ℕ) (b : Boot) (pt : Point) (d : Step) (w : Spelled) → IsStep n d → group_of b pt d ≡ Some w → ((ps : List Part) → rule.outcome b pt d ≡ Some ps → LineCore n (headed pt d) → AllNeed n (headed pt d) ps) → Sane pt → LineCore n pt → LineCore n w.point
 group_core n b pt d w fit e needs sane h =
     let g = group_is b pt d w e in
-    let start = line_core n pt pt.kernel (Line.Head d) (search arith) sane refl h in
+    let start = line_core n pt pt.kernel (Line.Head d) fit sane refl h in
     subst (LineCore n) g.point (parts_core n g.parts (headed pt d) g.rest (outcome_sayable b pt d g.parts g.is) (needs g.parts g.is start) (head_sane pt d sane) g.said start)
 
-migrates_need : (n : ℕ) (pt : Point) (p : Pid) → pt.view.acting ≡ 0 → LineCore n pt → ((k : ℕ) → names pt.kernel (Child k) ≡ Some p → IsReal n pt.kernel.processes pt.view p) → AllNeed n pt (migrates pt p)
-migrates_need n pt p first h real = search (arith, by_migrates, first_need, child_is, id_eq-same)
+-- the manager is here, on its seat
+pub here_is : (k : Known) → is_here k ≡ true → k ≡ Here
+here_is Here e = refl
+here_is _ e = absurd (false≢true e)
+
+seat_knows : (n : ℕ) (pt : Point) → has_seat pt.view ≡ true → LineCore n pt → KnowsAt n pt.kernel.processes pt.view manager pt.view.seat
+seat_knows n pt here h =
+    let v = pt.view in
+    let known : v.known v.seat manager ≡ Here = here_is (v.known v.seat manager) here in
+    let some : v.known v.seat manager ≢ Unknown = λ e. (let f : Here ≡ Unknown = sym known ∙ e in cc) in
+    inr (refl, (known_within n pt.kernel.processes v v.seat manager (v.known v.seat manager) some (h.known v.seat manager), λ lives. some))
+
+-- it knows the place of what it tells to move, which is its own, or that of one of its holders
+place_knows : (n : ℕ) (pt : Point) (p : Pid) (a : Place) → known_place pt.kernel pt.view pt.view.acting pt.addresses p ≡ Some a → KnowsAt n pt.kernel.processes pt.view manager pt.view.acting → LineCore n pt
+    → Knows n pt.kernel.processes pt.view p a × IsReal n pt.kernel.processes pt.view p
+place_knows n pt p a place seat h =
+    let v = pt.view in
+    let l = pt.kernel.processes in
+    elim (known_by pt.kernel v v.acting pt.addresses p a place) [
+      | inl own ↦ (subst (λ (q : Pid). Knows n l v q a) (sym own.0) (subst (Knows n l v manager) (sym own.1) seat), subst (IsReal n l v) (sym own.0) (server_real pt n manager h refl))
+      | inr other ↦ (subst (Knows n l v p) (sym other.1.1) (h.all other.0 p (Links other.1.0)), named_by pt n other.0 p h other.1.0)
+    ]
+
+asks_own : (n : ℕ) (pt : Point) (p : Pid) (a : Place) → has_seat pt.view ≡ true → pt.view.acting ≡ pt.view.seat → known_place pt.kernel pt.view pt.view.seat pt.addresses p ≡ Some a → LineCore n pt → NeedsOwn n pt MessageKind.Migrate p a.at
+asks_own n pt p a here acts knows h =
+    let v = pt.view in
+    let l = pt.kernel.processes in
+    let i = own_id v in
+    let place : known_place pt.kernel v v.acting pt.addresses p ≡ Some a = ap (λ (m : ℕ). known_place pt.kernel v m pt.addresses p) acts ∙ knows in
+    let seat : KnowsAt n l v manager v.acting = subst (KnowsAt n l v manager) (sym acts) (seat_knows n pt here h) in
+    let gs = own_given pt.kernel v pt.addresses i p (sort_of MessageKind.Migrate) in
+    let to : given pt.addresses gs (Receiver i) ≡ a =
+    ap (λ (c : Bool). if c then unwrap_or (known_place pt.kernel v v.acting pt.addresses p) (unmoved 0) else pt.addresses (Receiver i)) (id_eq-same i) ∙ ap (λ (o : Option Place). unwrap_or o (unmoved 0)) place in
+    let from : given pt.addresses gs (Sender i) ≡ acting_place v manager = ap (λ (c : Bool). if c then acting_place v manager else pt.addresses (Sender i)) (id_eq-same i) in
+    let both = place_knows n pt p a place seat h in
+    record {
+      knows = subst (Knows n l v p) (sym to) both.0;
+      from = λ e. subst (Knows n l v manager) (sym from) seat;
+      at = ap (λ (x : Place). x.at) to;
+      real = both.1;
+      own = refl;
+    }
+
+migrates_need : (n : ℕ) (pt : Point) (p : Pid) → (has_seat pt.view ≡ true → pt.view.acting ≡ pt.view.seat) → LineCore n pt → AllNeed n pt (migrates pt p)
+migrates_need n pt p acts h =
+    by_migrates (AllNeed n pt) pt p (first_need n pt (Says Line.Away) [] tt tt) (first_need n pt (Says (Line.NoChild p)) [] tt tt)
+    (λ a here knows. (asks_own n pt p a here (acts here) knows h, λ ls next is leads. tt))
 
 pub told_there : (o : Option Told) → is_some o ≡ true → (t : Told) × (o ≡ Some t)
 told_there o h1 = search arith
@@ -70,7 +119,7 @@ pub told_for : (pt : Point) (o : Option Told) (i : MsgId) (p q : Pid) → Sane p
 told_for pt o i p q h1 h2 h3 h4 = search (arith, named_for)
 
 -- what is held for a process is for it
-abbrev HeldFor : View → Type 0
+abbrev pub HeldFor : View → Type 0
 HeldFor v = (m : ℕ) (p : Pid) (i : MsgId) → 1 ≤ times i (v.held m p) → (t : Told) × (v.told i ≡ Some t) × (t.receiver ≡ p)
 
 waits_for : (pt : Point) (p : Pid) (i : MsgId) (q : Pid) → HeldFor pt.view → State None pt → Sane pt → 1 ≤ times i (both_lists pt.view p) → Named pt.kernel pt.view (Receiver i) q → q ≡ p
@@ -177,7 +226,7 @@ own_need n b pt m i is ps base h holds sane state in_ front there e =
     (told_by_need n start b pt m i t h.machines h.acting (told_over pt m i t base told) at le (subst (λ (x : Option Told). target_of x < n) (sym front_is) le)
     (λ p about between fresh. heard n pt m i is t p h holds sane state in_ front told own about between fresh)
     (λ to c f. forwards_need n start i is t manager to c front state sane h told f (forward_free n pt.kernel.processes start.view m t.receiver to c f h.known)
-    (λ back. (h.all (Sender i) manager (Owns (Comes i t refl own told (moves_back t.kind (h.real i t told own).1 back) refl)), inl (refl, some)))))
+    (λ back. (h.all (Sender i) manager (Owns (Comes i t refl own told (moves_back t.kind (h.real i t told own).1 back) refl)), server_real start n manager h refl))))
 
 -- a migration is called off
 held_for : (pt : Point) (p : Pid) (i : MsgId) (q : Pid) → HeldFor pt.view → Sane pt → 1 ≤ times i (pt.view.held pt.view.acting p) → Named pt.kernel pt.view (Receiver i) q → q ≡ p
@@ -195,7 +244,7 @@ calls_off_need n pt p m base holds h =
     calls_need n start p from state h is (within_there from p there) (λ i q least named. held_for start p i q holds (head_sane pt (Step.CallOff p m) base.sane) least named)
     ))
 
-outcome_need : (n : ℕ) (b : Boot) (pt : Point) (d : Step) (ps : List Part) → Phased pt → HeldFor pt.view → LineCore n pt → rule.outcome b pt d ≡ Some ps → LineCore n (headed pt d) → AllNeed n (headed pt d) ps
+pub outcome_need : (n : ℕ) (b : Boot) (pt : Point) (d : Step) (ps : List Part) → Phased pt → HeldFor pt.view → LineCore n pt → rule.outcome b pt d ≡ Some ps → LineCore n (headed pt d) → AllNeed n (headed pt d) ps
 outcome_need n b pt d ps base holds core =
     let state : (m : ℕ) → State None (headed pt (Step.Turn m)) = λ m. begun pt (Step.Turn m) base.state (λ z. turn_off pt.view m z) (λ i. refl) in
     by_outcome (λ x xs. LineCore n (headed pt x) → AllNeed n (headed pt x) xs) b pt d ps (record {
@@ -210,7 +259,7 @@ outcome_need n b pt d ps base holds core =
       ticks = λ m xs net h. loose_need n (headed pt (Step.Tick m)) xs ((by_net (AllLoose n) tt (λ l ps net h. ((λ pt. search arith), h)) (λ a b l ps h. (λ pt. tt, h))) xs net);
       delivers = λ a c k xs net h. loose_need n (headed pt (Step.Deliver a c k)) xs ((by_net (AllLoose n) tt (λ l ps net h. ((λ pt. search arith), h)) (λ a b l ps h. (λ pt. tt, h))) xs net);
       calls = λ p m h. calls_off_need n pt p m base holds h;
-      asks = λ p m h. migrates_need n (headed pt (Step.Migrate p m)) p refl h (λ k named. child_real pt n k p core named);
+      asks = λ p m h. migrates_need n (headed pt (Step.Migrate p m)) p (λ here. ap (λ (c : Bool). if c then pt.view.seat else 0) here) h;
     })
 
 -- each group

@@ -7,13 +7,17 @@ use Rattle.dm_rulelaws.proofs.Names.{answer_id, id_eq-is, Addresses, Gets, landi
 use Rattle.dm_rulelaws.proofs.Names.{bag_served, bag_gone, bag_no_space, bag_created, bag_took, spares, spares_both, two_more, made_spares, sends_spares, receives_spares, creates_what_spares, finds_spares, keeps_spares}
 use Rattle.dm_rulelaws.proofs.Names.{manager_takes_spares, KernelFits, topic_by, bag_answered, aim, sets, not, filter, ◌==◌, Step, Load, Stage, Known, Frozen, Incoming, view_after, after_head, after_stage, AskedBy, after_proto, queued_for}
 use Rattle.dm_rulelaws.proofs.Names.{held_for, taken_id, oldest, gone_to, front_of, label_of, kernel_after, is_put, hushed, queued_known, held_known, proto_known, proto_acting, option_map_or, NothingElse, acting_place, move_target}
-use Rattle.dm_rulelaws.proofs.Names.{LifeGrows, Lives, at_record, dropped_for, served_told}
+use Rattle.dm_rulelaws.proofs.Names.{Life, LifeGrows, Lives, at_record, dropped_for, served_told}
+use Rattle.dm_rulelaws.proofs.Names.{is_made, is_server, ◌||◌, IsStep}
+use Rattle.dm_rule.specs.View.{actor}
+use Rattle.dm_rule.proofs.Trails.Within.{head_less}
+use Rattle.dm_rulelaws.proofs.Found.Real.{or_cases}
 use Rattle.dm_rule.proofs.Trails.Places.{Owns}
 use Rattle.dm_rulelaws.proofs.Fits.Start.{fits_step}
 use Rattle.dm_rulelaws.proofs.Found.Lists.{places_label, places_about, Places, Brings, places_line, AllAre, all_as, Sends, step_leaves, created_for}
 use Rattle.dm_rulelaws.proofs.Based.Needs.{is_over}
 use Rattle.dm_rulelaws.proofs.Based.Sets.{killed_or}
-use Rattle.dm_rulelaws.proofs.Found.Core.{Older, There, NeedsOver, buried_core, nothing_grows, stays_old, there_grows}
+use Rattle.dm_rulelaws.proofs.Found.Core.{Older, There, NeedsOver, buried_core, nothing_grows, stays_old, there_grows, some_made, server_made, known_within}
 use Rattle.dm_rulelaws.proofs.Found.Core.{AboutIs, KnowsAt, Knows, IsAt, KnownIs, LineCore, Grows, Learns, learns_nothing, learns, knows_grow, own_grows, about_grows, core_view, known_grows, NeedsPut, put_core, NeedsForward, NeedsSent, NeedsCalled}
 use Rattle.dm_rulelaws.proofs.Found.Core.{forwarded_core, sent_core, called_core, updated_core}
 use Rattle.dm_rulelaws.proofs.Based.Loud.{SetLife, over_is, some_alike, step_alike, step_ends, step_serves, step_creates, stays_over}
@@ -221,7 +225,7 @@ said_on n pt s l h1 h2 h3 = search (arith, there_known, received_at, pt.kernel, 
 entered : (pt : Point) (i : MsgId) (h : Sane pt) → is_some (pt.view.told i) ≡ true → is_kernels i ≡ false → 1 ≤ h.e i
 entered pt i h some other = search (arith, zero_cases, h.e, pt.view.told, h.untold)
 
-outside : (pt : Point) (s : OneKernel) (l : Label) (h : Sane pt) → kernel.step pt.kernel l ≡ Some s → Outside s
+pub outside : (pt : Point) (s : OneKernel) (l : Label) (h : Sane pt) → kernel.step pt.kernel l ≡ Some s → Outside s
 outside pt s l h is j x there = not_kernels (λ i. h.r i + reception i l) (λ i. h.e i + entry i pt.kernel s) s j x there (after_step h.r h.e pt.kernel s l is h.sound).sound
 
 keeps_receiver : (pt : Point) (s : OneKernel) (l : Label) (i : MsgId) → Sane pt → kernel.step pt.kernel l ≡ Some s → is_some (pt.view.told i) ≡ true → given pt.addresses (gives pt.kernel pt.view pt.addresses l) (Receiver i) ≡ pt.addresses (Receiver i)
@@ -232,8 +236,16 @@ keeps_receiver pt s l i h is some =
       | inr other ↦ told_spares h.r h.e pt.kernel s pt.view pt.addresses l i is h.sound (entered pt i h some other)
     ])
 
+-- what was made stays so
+made_grows : (c : Bool) (a b : Option Life) → LifeGrows a b → (c || is_some a) ≡ true → (c || is_some b) ≡ true
+made_grows true a b grows made = refl
+made_grows false None b grows made = absurd (false≢true made)
+made_grows false (Some x) (Some y) grows made = refl
+made_grows false (Some x) None grows made = absurd (let f : Some x ≡ None = grown_none (Some x) None grows refl in cc)
+
 sends_grow : (n : ℕ) (s t : OneKernel) (q : Pid) → Grown s t → Sends n s q → Sends n t q
-sends_grow n s t q grown h = search (arith, s.processes, t.processes, grown_none, grown.lives)
+sends_grow n s t q grown (inl fixed) = inl fixed
+sends_grow n s t q grown (inr made) = inr (made_grows (is_server q) (s.processes q) (t.processes q) (grown.lives q) made)
 
 label_all : (n : ℕ) (pt : Point) (s : OneKernel) (l : Label) → Sane pt → kernel.step pt.kernel l ≡ Some s → AtHome (Knows n pt.kernel.processes pt.view) s (given pt.addresses (gives pt.kernel pt.view pt.addresses l)) → LineCore n pt
     → AllAre (Knows n pt.kernel.processes pt.view) s pt.view (given pt.addresses (gives pt.kernel pt.view pt.addresses l))
@@ -257,14 +269,21 @@ born_home n pt s id child q need is h b =
     (subst (λ (m : ℕ). m < n) (sym here) h.acting, λ lives e. (let f : Here ≡ Unknown = sym known ∙ e in cc))
 
 other_home : (n : ℕ) (pt : Point) (s : OneKernel) (w : View) → Grows pt.kernel.processes s.processes pt.view w → MadeBefore pt.kernel s → LineCore n pt → (q : Pid) → is_some (s.processes q) ≡ true → There n s.processes w q.home q
-other_home n pt s w grows made h q some = there_grows n pt.kernel.processes s.processes pt.view w q.home q grows (h.home q (made q some))
+other_home n pt s w grows made h q some = there_grows n pt.kernel.processes s.processes pt.view w q.home q grows (h.home q (some_made pt.kernel q (made q some)))
 
-label_home : (n : ℕ) (pt : Point) (s : OneKernel) (l : Label) → NeedsLabel n pt l → kernel.step pt.kernel l ≡ Some s → Grows pt.kernel.processes s.processes pt.view (after_label pt.view l) → LineCore n pt → (q : Pid) → is_some (s.processes q) ≡ true → There n s.processes (after_label pt.view l) q.home q
-label_home n pt s (Label.Created id child) need is grows h q some = elim (created_made pt.kernel s id child is q some) [
-  | inl old ↦ there_grows n pt.kernel.processes s.processes pt.view (after_label pt.view (Label.Created id child)) q.home q grows (h.home q old)
+made_home : (n : ℕ) (pt : Point) (s : OneKernel) (l : Label) → NeedsLabel n pt l → kernel.step pt.kernel l ≡ Some s → Grows pt.kernel.processes s.processes pt.view (after_label pt.view l) → LineCore n pt → (q : Pid) → is_some (s.processes q) ≡ true → There n s.processes (after_label pt.view l) q.home q
+made_home n pt s (Label.Created id child) need is grows h q some = elim (created_made pt.kernel s id child is q some) [
+  | inl old ↦ there_grows n pt.kernel.processes s.processes pt.view (after_label pt.view (Label.Created id child)) q.home q grows (h.home q (some_made pt.kernel q old))
   | inr new ↦ born_home n pt s id child q need is h new
 ]
-label_home n pt s l need is grows h q some = other_home n pt s (after_label pt.view l) grows (step_made pt.kernel s l refl is) h q some
+made_home n pt s l need is grows h q some = other_home n pt s (after_label pt.view l) grows (step_made pt.kernel s l refl is) h q some
+
+-- a server is known at home as before
+label_home : (n : ℕ) (pt : Point) (s : OneKernel) (l : Label) → NeedsLabel n pt l → kernel.step pt.kernel l ≡ Some s → Grows pt.kernel.processes s.processes pt.view (after_label pt.view l) → LineCore n pt → (q : Pid) → is_made s q ≡ true → There n s.processes (after_label pt.view l) q.home q
+label_home n pt s l need is grows h q made = elim (or_cases (is_server q) (is_some (s.processes q)) made) [
+  | inl server ↦ there_grows n pt.kernel.processes s.processes pt.view (after_label pt.view l) q.home q grows (h.home q (server_made pt.kernel q server))
+  | inr some ↦ made_home n pt s l need is grows h q some
+]
 
 asked_within : (n : ℕ) (k : Lives) (s : OneKernel) (v : View) (i : MsgId) (o : Option PlainMessage) → s.bag i ≡ o → s.machines ≡ n → KernelFits s → AboutIs n k v (option_map_or (λ (m : PlainMessage). move_target m.what) o NothingElse)
 asked_within n k s v i None there same h = tt
@@ -387,15 +406,8 @@ stays_core n pt p h =
     learnt_core n pt w learnt refl (about_grows n pt.kernel.processes pt.kernel.processes pt.view w pt.view.topic learnt.grows h.topic) (places_line (IsAt pt.addresses pt.view) pt.view (Line.Stays p) tt h.places) h
 
 -- what a line needs
-abbrev pub NeedsHead : ℕ → Step → Type 0
-NeedsHead n (Step.Turn m) = m < n
-NeedsHead n (Step.Tick m) = m < n
-NeedsHead n (Step.Deliver a b k) = b < n
-NeedsHead n (Step.Migrate p m) = (0 < n) × (m < n)
-NeedsHead n (Step.CallOff p m) = m < n
-
 abbrev pub NeedsLine : ℕ → Point → Line → Type 0
-NeedsLine n pt (Line.Head d) = NeedsHead n d
+NeedsLine n pt (Line.Head d) = IsStep n d
 NeedsLine n pt (Line.Label l) = NeedsLabel n pt l
 NeedsLine n pt (Line.Put a b id k q) = NeedsPut n pt b id k q
 NeedsLine n pt (Line.Queued id) = IsAt pt.addresses pt.view id pt.view.acting
@@ -412,9 +424,15 @@ head_known n l v w same h m p =
     let alike : (i : ℕ) (q : Pid) → w.known i q ≡ v.known i q = λ i q. ap (λ (f : ℕ → Pid → Known). f i q) same in
     subst (KnownIs n l w m p) (sym (alike m p)) (known_grows n l l v w m p (v.known m p) (nothing_grows l v w alike) (h m p))
 
-head_core : (n : ℕ) (pt : Point) (d : Step) → NeedsHead n d → LineCore n pt → LineCore n (at_view pt (after_head pt.view d))
-head_core n pt (Step.Migrate p m) need h = core_view n pt (after_head pt.view (Step.Migrate p m)) pt.addresses need.0 (nothing_grows pt.kernel.processes pt.view (after_head pt.view (Step.Migrate p m)) (λ i q. refl)) (head_known n pt.kernel.processes pt.view (after_head pt.view (Step.Migrate p m)) refl h.known) refl need.1 h.all (places_line (IsAt pt.addresses pt.view) pt.view (Line.Head (Step.Migrate p m)) tt h.places) h
-head_core n pt any_ need h = core_view n pt (after_head pt.view any_) pt.addresses need (nothing_grows pt.kernel.processes pt.view (after_head pt.view any_) (λ i q. refl)) (head_known n pt.kernel.processes pt.view (after_head pt.view any_) refl h.known) refl tt h.all (places_line (IsAt pt.addresses pt.view) pt.view (Line.Head any_) tt h.places) h
+-- a head names one of so many machines
+head_acts : (n : ℕ) (pt : Point) (d : Step) → IsStep n d → LineCore n pt → actor pt.view d < n
+head_acts n pt d need h = head_less n pt.view d (λ m q some. known_within n pt.kernel.processes pt.view m q (pt.view.known m q) some (h.known m q)) need
+
+head_core : (n : ℕ) (pt : Point) (d : Step) → IsStep n d → LineCore n pt → LineCore n (at_view pt (after_head pt.view d))
+head_core n pt (Step.Migrate p m) need h =
+    let d = Step.Migrate p m in
+    core_view n pt (after_head pt.view d) pt.addresses (head_acts n pt d need h) (nothing_grows pt.kernel.processes pt.view (after_head pt.view d) (λ i q. refl)) (head_known n pt.kernel.processes pt.view (after_head pt.view d) refl h.known) refl need h.all (places_line (IsAt pt.addresses pt.view) pt.view (Line.Head d) tt h.places) h
+head_core n pt any_ need h = core_view n pt (after_head pt.view any_) pt.addresses (head_acts n pt any_ need h) (nothing_grows pt.kernel.processes pt.view (after_head pt.view any_) (λ i q. refl)) (head_known n pt.kernel.processes pt.view (after_head pt.view any_) refl h.known) refl tt h.all (places_line (IsAt pt.addresses pt.view) pt.view (Line.Head any_) tt h.places) h
 
 pub packet_core : (n : ℕ) (pt : Point) (a b k : ℕ) (l : Load) → LineCore n pt → LineCore n (moved pt (Line.Packet a b k l) pt.kernel)
 packet_core n pt a b k l h = quiet_core n pt (Line.Packet a b k l) refl refl (λ m q. refl) refl h.topic tt h

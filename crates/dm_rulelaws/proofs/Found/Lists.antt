@@ -4,7 +4,7 @@ use Rattle.dm_rulelaws.proofs.Names.{id_eq-is, id_eq-same, Line, Stage, at_machi
 use Rattle.dm_rulelaws.proofs.Names.{handled_first, queued_for, held_for, forwarded_for, rejoins, served_told, receiver_of, taken_id, oldest, routed_on, Spot, Queue, Held, Inbox, Untaken, times, untaken, standing, eq_is, parts, at_place}
 use Rattle.dm_rulelaws.proofs.Names.{pair_keeps, times-append, machine_of, ap, ◌∙◌, cases_Bool, false≢true, Place, id_eq, manager, OneKernel, is_kernels, own_id, Addresses, Holder, Receiver, Sender, Gets, given, holder_eq, place_known}
 use Rattle.dm_rulelaws.proofs.Names.{all_follow, is_told_back, told_back_gets, forwards, place_told, is_behind, updated_to, updated, own_given, first_gives, one_of, put_told_off, put_at, Goes, Comes, Named, Links, holder_is}
-use Rattle.dm_rulelaws.proofs.Names.{unnamed_receiver, unnamed_sender, put_named, told_again, is_own, leads_where, behind_where, plain_gives, not_own, ◌<◌, is_some, nat_tests, PlainMessage, is_fixed, by_step, MoveNote, sort_of, dropped_for}
+use Rattle.dm_rulelaws.proofs.Names.{unnamed_receiver, unnamed_sender, put_named, told_again, is_own, leads_where, behind_where, plain_gives, not_own, ◌<◌, is_some, nat_tests, PlainMessage, is_fixed, by_step, MoveNote, sort_of, dropped_for, is_made, is_server, ◌||◌}
 use Rattle.dm_rule.proofs.Trails.Places.{Owns}
 use Rattle.dm_rulelaws.proofs.Based.Sets.{set_all, without_fewer, front_fewer, last_of}
 use Rattle.dm_rulelaws.proofs.Fits.Constants.{step_constant}
@@ -12,6 +12,7 @@ use Rattle.dm_rulelaws.proofs.Own.Told.{Origin, brings}
 use Rattle.dm_rule.specs.View as view
 use Rattle.dm_onekernel.specs.Service as service
 use Rattle.dm_onekernel.specs.Step as kernel
+use Rattle.dm_rule.proofs.Trails.Puts.{routed_named}
 
 -- of each message that stands somewhere, with the machine
 abbrev pub Places : (MsgId → ℕ → Type 0) → View → Type 0
@@ -168,11 +169,17 @@ places_label G v _ h = h
 pub places_about : (G : MsgId → ℕ → Type 0) (v : View) (a : About) → Places G v → Places G (view.about v a)
 places_about G v a h = places_as G v (view.about v a) refl refl refl (λ b c. refl) h
 
+-- step 4 of a server leaves the message
+places_for : (G : MsgId → ℕ → Type 0) (v : View) (c : Bool) → Places G v → Places G (record v { inbox = if c then v.inbox else (handled_first v).inbox })
+places_for G v true h = places_as G v (record v { inbox = v.inbox }) refl refl refl (λ a b. refl) h
+places_for G v false h = places_as G (handled_first v) (record v { inbox = (handled_first v).inbox }) refl refl refl (λ a b. refl) (places_first G v h)
+
 pub places_stage : (G : MsgId → ℕ → Type 0) (v : View) (p : Pid) (s : Stage) → Places G v → Places G (after_stage v p s)
 places_stage G v p Stage.Asked h = h
 places_stage G v p Stage.Frozen h = search (arith, v.topic, places_as, places_first)
 places_stage G v p Stage.Left h = places_as G v (after_stage v p Stage.Left) refl refl refl (λ a b. refl) h
 places_stage G v p Stage.Restarted h = places_as G (rejoins (handled_first v) p) (after_stage v p Stage.Restarted) refl refl refl (λ a b. refl) (places_rejoins G (handled_first v) p (places_first G v h))
+places_stage G v p Stage.StateTaken h = places_as G (view.handled_for v p) (after_stage v p Stage.StateTaken) refl refl refl (λ a b. refl) (places_for G v (is_server p) h)
 places_stage G v p any_ h = places_as G (handled_first v) (after_stage v p any_) refl refl refl (λ a b. refl) (places_first G v h)
 
 places_proto : (G : MsgId → ℕ → Type 0) (v : View) (o : Option Told) → Places G v → Places G (after_proto v o)
@@ -318,20 +325,6 @@ pub routed_gives : (s : OneKernel) (v : View) (a : Addresses) (id : MsgId) (k : 
 routed_gives s v a id k q plain None h = ap (λ (gs : List Gets). given a gs h) (plain_gives s v a id q k plain)
 routed_gives s v a id k q plain (Some u) h = refl
 
-routed_named : (s : OneKernel) (v : View) (x y : ℕ) (id : MsgId) (k : MessageKind) (q : Pid) (h : Holder) (r : Pid) → is_kernels id ≡ false → is_own k ≡ false → v.told id ≡ None → Named s (after_put v x y id k q) h r → Named s v h r
-routed_named s v x y id k q h r other plain none (Links e) = Links e
-routed_named s v x y id k q h r other plain none (Owns (Goes i u is own told to)) = elim (cases_Bool (id_eq id i)) [
-  | inl same ↦ absurd (false≢true (sym other ∙ ap is_kernels (id_eq-is id i same) ∙ own))
-  | inr apart ↦ Owns (Goes i u is own (sym (put_told_off v x y id i k q apart) ∙ told) to)
-]
-routed_named s v x y id k q h r other plain none (Owns (Comes i u is mine told move to)) = elim (put_named s v x y id k q h r none (Owns (Comes i u is mine told move to))) [
-  | inl old ↦ old
-  | inr new ↦ elim new [
-    | inl way ↦ absurd (let f : Receiver id ≡ Sender i = sym way.0 ∙ is in cc)
-    | inr way ↦ absurd (not_own k plain way.1)
-  ]
-]
-
 pub put_routed : (P : Pid → Place → Type 0) (s : OneKernel) (v : View) (a : Addresses) (x y : ℕ) (id : MsgId) (k : MessageKind) (q : Pid) → is_kernels id ≡ false → is_own k ≡ false → v.told id ≡ None → AllAre P s v a
     → AllAre P s (after_put v x y id k q) (given a (first_gives (v.told id) (own_given s v a id q (sort_of k))))
 put_routed P s v a x y id k q other plain none h g r e = subst (P r) (sym (routed_gives s v a id k q plain (v.told id) g)) (h g r (routed_named s v x y id k q g r other plain none e))
@@ -353,9 +346,9 @@ put_tells v x y id k q i u h1 = search (arith, id_eq-is, v.told, put_at, put_tol
 
 -- What a step of the kernel without machines leaves: how many machines there are, and who sends.
 
--- who sends messages: a server, a kernel of so many machines, or a process that was made
+-- who sends messages: a kernel of so many machines, a server, or a process that was made
 abbrev pub Sends : ℕ → OneKernel → Pid → Type 0
-Sends n s q = ((is_fixed q ≡ true) × (q.home < n)) ⊎ (is_some (s.processes q) ≡ true)
+Sends n s q = ((is_fixed q ≡ true) × (q.home < n)) ⊎ (is_made s q ≡ true)
 
 -- each message that comes is one of these
 pub record Leaves (n : ℕ) (s t : OneKernel) : Type 0 where
@@ -376,8 +369,16 @@ for_it s id m there fixed x is = let f : Some m ≡ Some x = sym there ∙ is in
 pub created_for : (s t : OneKernel) (id : MsgId) (child : Pid) → kernel.step s (Label.Created id child) ≡ Some t → IsFor s id
 created_for s t id child = search (arith, by_step, for_it, kernel_fixed)
 
+or_true : (c : Bool) → (c || true) ≡ true
+or_true true = refl
+or_true false = refl
+
 origin_sends : (n : ℕ) (s : OneKernel) (x : PlainMessage) → s.machines ≡ n → 0 < n → Origin s x → Sends n s x.sender
-origin_sends n s x same some h = search (arith, x.sender.home, kernel_fixed, x.sender, s.machines)
+origin_sends n s x same some (inl made) = inr (ap (λ (c : Bool). is_server x.sender || c) made ∙ or_true (is_server x.sender))
+origin_sends n s x same some (inr (inl server)) = inr (ap (λ (c : Bool). c || is_some (s.processes x.sender)) server)
+origin_sends n s x same some (inr (inr (kern, plain))) =
+    let less : x.sender.home < s.machines = grind (arith, nat_tests) in
+    inl (kernel_fixed s x.sender kern, subst (λ (k : ℕ). x.sender.home < k) same less)
 
 pub step_leaves : (n : ℕ) (s t : OneKernel) (l : Label) → s.machines ≡ n → 0 < n → ((p : Pid) (k : MoveNote) → s.notes p ≡ Some k → is_some (s.processes p) ≡ true) → kernel.step s l ≡ Some t → Leaves n s t
 step_leaves n s t l same some lives is = record {

@@ -1,8 +1,8 @@
 -- The parts of a group keep where messages stand, where each has what it needs.
 use Rattle.dm_rulelaws.proofs.Names.{◌≡◌, ℕ, ◌<◌, true, false, List, [], ◌∷◌, refl, ◌∙◌, sym, arith, ⊤, Option, None, Some, Pid, pid_of, MsgId, MessageKind, plain_kind, PlainMessage, PlainWhat, manager, id_eq-same, bind-is, Line, Told}
 use Rattle.dm_rulelaws.proofs.Names.{own_id, Holder, Receiver, Sender, given, goes_between, own_given, Point, moved, after, Part, Says, Routes, Again, Owns, Transmits, Spelled, lines_of, puts, spelled, not_kernels, not_first, Sane}
-use Rattle.dm_rulelaws.proofs.Names.{AllSayable, part_sane, is_own, by_parts, ◌+◌, ap, subst, Label, Boot, first_number, PlainProcess, Forward, forwards_on, Stops, by_round, by_handles, ◌==◌, Bool, ◌++◌, length, ◌/◌, if◌then◌else◌, pid_eq}
-use Rattle.dm_rulelaws.proofs.Names.{Stage, switchboard, bind, About, Of, Known, Unknown, Here, target_of, front_of, to_kernel, accepts, takes_block, leaves, pieces_of, told_step, told_here, process_told, told_server, is_between, is_fixed}
+use Rattle.dm_rulelaws.proofs.Names.{AllSayable, part_sane, is_own, by_parts, ◌+◌, ap, subst, Label, Boot, first_number, PlainProcess, Forward, forwards_on, Stops, by_round, by_handles, ◌==◌, Bool, ◌++◌, length, if◌then◌else◌}
+use Rattle.dm_rulelaws.proofs.Names.{Stage, bind, About, Of, Known, Unknown, Here, target_of, front_of, to_kernel, accepts, takes_block, leaves, pieces_of, told_step, told_here, process_told, is_between, is_fixed, takes_chunk, chunks_of, Size, size_of, is_server}
 use Rattle.dm_rulelaws.proofs.Names.{Outcome, MoveNote, OneKernel, answers_move, leaves_for, aim, label_of, kernel_after, at_record, at_record_at, tells_asker, View, after_line, packet_line, sort_of, Lives, buried, buries, bury_is}
 use Rattle.dm_rulelaws.proofs.Names.{ends_with, inr, map, preds_of, tells_end}
 use Rattle.dm_rulelaws.proofs.Found.Core.{Knows, IsReal, LineCore, KnowsAt, IsAt, NeedsPut, put_core}
@@ -213,6 +213,18 @@ accepts_need : (n : ℕ) (pt : Point) (from : ℕ) (p : Pid) (c : Bool) (slots b
 accepts_need n pt from p true slots blocks le front = first_need n pt (Says (Line.Migration Stage.Accepted p)) (to_kernel MessageKind.PullState from ∷ []) front (to_one n MessageKind.PullState from (λ q. refl) (λ e. cc) refl le)
 accepts_need n pt from p false slots blocks le front = first_need n pt (Says (Line.Lacks p slots blocks)) (to_kernel MessageKind.Refuse from ∷ []) tt (to_one n MessageKind.Refuse from (λ q. refl) (λ e. cc) refl le)
 
+-- a piece has come
+chunk_by : (n : ℕ) (pt : Point) (id : MsgId) (p : Pid) (last server : Bool) → id.from.home < n
+    → AllNeed n pt (if last then (if server then Says (Line.Migration Stage.StateTaken p) ∷ Says (Line.Migration Stage.MemoryTaken p) ∷ to_kernel MessageKind.AllTaken id.from.home ∷ [] else Says (Line.Migration Stage.StateTaken p) ∷ to_kernel MessageKind.PullBlock id.from.home ∷ [])
+    else Says (Line.Proto id) ∷ to_kernel MessageKind.PullState id.from.home ∷ [])
+chunk_by n pt id p true true le =
+    first_need n pt (Says (Line.Migration Stage.StateTaken p)) (Says (Line.Migration Stage.MemoryTaken p) ∷ to_kernel MessageKind.AllTaken id.from.home ∷ []) tt (λ q. tt, to_one n MessageKind.AllTaken id.from.home (λ q. refl) (λ e. cc) refl le)
+chunk_by n pt id p true false le = first_need n pt (Says (Line.Migration Stage.StateTaken p)) (to_kernel MessageKind.PullBlock id.from.home ∷ []) tt (to_one n MessageKind.PullBlock id.from.home (λ q. refl) (λ e. cc) refl le)
+chunk_by n pt id p false server le = first_need n pt (Says (Line.Proto id)) (to_kernel MessageKind.PullState id.from.home ∷ []) tt (to_one n MessageKind.PullState id.from.home (λ q. refl) (λ e. cc) refl le)
+
+chunk_need : (n : ℕ) (pt : Point) (id : MsgId) (p : Pid) (last : Bool) → id.from.home < n → AllNeed n pt (takes_chunk id p last)
+chunk_need n pt id p last le = chunk_by n pt id p last (is_server p) le
+
 block_need : (n : ℕ) (pt : Point) (id : MsgId) (p : Pid) (c : Bool) → id.from.home < n → AllNeed n pt (takes_block id p c)
 block_need n pt id p true le = first_need n pt (Says (Line.Migration Stage.MemoryTaken p)) (to_kernel MessageKind.AllTaken id.from.home ∷ []) tt (to_one n MessageKind.AllTaken id.from.home (λ q. refl) (λ e. cc) refl le)
 block_need n pt id p false le = first_need n pt (Says (Line.Proto id)) (to_kernel MessageKind.PullBlock id.from.home ∷ []) tt (to_one n MessageKind.PullBlock id.from.home (λ q. refl) (λ e. cc) refl le)
@@ -237,12 +249,12 @@ comes_here n l v w p q le known acting free same =
 noted_same : (s t : OneKernel) (z : MoveNote) (p q : Pid) → Some s ≡ Some t → s.noted z.id ≡ Some p → t.noted z.id ≡ Some q → p ≡ q
 noted_same s t z p q e f g = search (arith, z.id)
 
-told_need : (n : ℕ) (pt o : Point) (m : ℕ) (id : MsgId) (p : Pid) (room : Bool × ℕ × ℕ) (x : PlainProcess) (k : MessageKind) → pt.view.acting < n → (is_between k ≡ true → Heard n pt o m id p k) → NeedOf n pt (told_step o m id p room x (sort_of k))
+told_need : (n : ℕ) (pt o : Point) (m : ℕ) (id : MsgId) (p : Pid) (room : Bool × ℕ × ℕ) (x : Size) (k : MessageKind) → pt.view.acting < n → (is_between k ≡ true → Heard n pt o m id p k) → NeedOf n pt (told_step o m id p room x (sort_of k))
 told_need n pt o m id p room x MessageKind.Ask le h = accepts_need n pt id.from.home p room.0 room.1 room.2 (h refl).0 (h refl).1
 told_need n pt o m id p room x MessageKind.Refuse le h =
     asker_need n pt (Line.Stays p) (o.kernel.notes p) Outcome.Stayed tt (λ z e s step q noted. comes_here n s.processes pt.view (moved pt (Line.Stays p) s).view p q le refl refl (h refl).1.1 (noted_same pt.kernel s z p q step ((h refl).2 z e) noted))
 told_need n pt o m id p room x MessageKind.PullState le h = first_need n pt (Says (Line.Proto id)) (to_kernel MessageKind.State id.from.home ∷ []) tt (to_one n MessageKind.State id.from.home (λ q. refl) (λ e. cc) refl (h refl).0)
-told_need n pt o m id p room x MessageKind.State le h = search (arith, first_need, to_one)
+told_need n pt o m id p room x MessageKind.State le h = chunk_need n pt id p (o.view.asked p == chunks_of x) (h refl).0
 told_need n pt o m id p room x MessageKind.PullBlock le h = first_need n pt (Says (Line.Proto id)) (to_kernel MessageKind.Memory id.from.home ∷ []) tt (to_one n MessageKind.Memory id.from.home (λ q. refl) (λ e. cc) refl (h refl).0)
 told_need n pt o m id p room x MessageKind.Memory le h = block_need n pt id p (o.view.asked p == pieces_of x) (h refl).0
 told_need n pt o m id p room x MessageKind.AllTaken le h = (h refl).3 refl
@@ -270,11 +282,11 @@ buried_need n pt o m id p same over = first_need n pt (Says (Line.Buried id (len
 kernel_hears_need : (n : ℕ) (pt : Point) (b : Boot) (o : Point) (m : ℕ) (id : MsgId) (k : MessageKind) (a : About) → o.kernel.machines ≡ n → pt.view.acting < n → (k ≡ MessageKind.Bury → NeedsOver pt id)
     → ((p : Pid) → a ≡ Of p → is_between k ≡ true → rule.is_stale o m id k p ≡ false → Heard n pt o m id p k) → NeedOf n pt (rule.kernel_hears b o m id k a)
 kernel_hears_need n pt b o m id k (Of p) same le over h =
-    let step = λ (x : PlainProcess). told_step o m id p (rule.fits (rule.free_room b o m) (length x.memory / 256)) x (sort_of k) in
-    let steps = bind (kernel.alive (o.kernel.processes p)) step in
+    let step = λ (x : Size). told_step o m id p (rule.fits (rule.free_room b o m) x.blocks) x (sort_of k) in
+    let steps = bind (size_of o.kernel p) step in
     over_need n pt (tells_end (sort_of k)) (buried o m id p) (if rule.is_stale o m id k p then Some (Says (Line.Stale id) ∷ []) else steps) (λ ends. buried_need n pt o m id p same (over (bury_is k ends)))
     (λ off. stale_need n pt id (rule.is_stale o m id k p) steps
-    (λ due. bind_need n pt (kernel.alive (o.kernel.processes p)) step (λ x e. told_need n pt o m id p (rule.fits (rule.free_room b o m) (length x.memory / 256)) x k le (λ between. h p refl between due))))
+    (λ due. bind_need n pt (size_of o.kernel p) step (λ x e. told_need n pt o m id p (rule.fits (rule.free_room b o m) x.blocks) x k le (λ between. h p refl between due))))
 kernel_hears_need n pt b o m id k _ same le over h = tt
 
 moves_need : (n : ℕ) (pt : Point) (id : MsgId) (p : Pid) (to : ℕ) (c : Bool) → to < n → (aim pt.view pt.view.topic < n) × (is_fixed p ≡ false)
@@ -287,21 +299,10 @@ here_told_need n pt o m id t MessageKind.Migrate le front = moves_need n pt id t
 here_told_need n pt o m id t MessageKind.Update le front = (tt, λ ls next is leads. tt)
 here_told_need n pt o m id t _ le front = tt
 
-server_told_need : (n : ℕ) (pt o : Point) (id : MsgId) (t : Told) (k : MessageKind) → NeedOf n pt (told_server o id t (sort_of k))
-server_told_need n pt o id t MessageKind.Update = (tt, λ ls next is leads. tt)
-server_told_need n pt o id t _ = tt
-
--- by whom it is for
-by_receiver : (n : ℕ) (pt : Point) (q : Pid) (c d e : Bool) (x y z w : Option (List Part)) → (q.num == 0) ≡ c → pid_eq q switchboard ≡ d → pid_eq q manager ≡ e → NeedOf n pt x → NeedOf n pt y → NeedOf n pt z → (is_fixed q ≡ false → NeedOf n pt w)
-    → NeedOf n pt (if c then x else if d then y else if e then z else w)
-by_receiver n pt q c d e x y z w h1 h2 h3 h4 h5 h6 h7 = search arith
-
 process_told_need : (n : ℕ) (pt o : Point) (m : ℕ) (id : MsgId) (t : Told) (k : Known) → Front pt id → target_of (Some t) < n → aim pt.view pt.view.topic < n → (t.receiver.num == 0) ≡ false
     → ((to c : ℕ) → k ≡ Forward to c → AllNeed n pt (forwards_on o.addresses id t.kind manager to)) → NeedOf n pt (process_told o m id t k)
 process_told_need n pt o m id t Unknown at le front num forwards = search (arith, t.kind)
-process_told_need n pt o m id t Here at le front num forwards =
-    by_receiver n pt t.receiver false (pid_eq t.receiver switchboard) (pid_eq t.receiver manager) None (told_server o id t (sort_of t.kind)) (told_server o id t (sort_of t.kind)) (told_here o m id t (sort_of t.kind)) num refl refl tt
-    (server_told_need n pt o id t t.kind) (server_told_need n pt o id t t.kind) (λ free. here_told_need n pt o m id t t.kind le (front, free))
+process_told_need n pt o m id t Here at le front num forwards = here_told_need n pt o m id t t.kind le (front, num)
 process_told_need n pt o m id t (Forward to c) at le front num forwards = forwards to c refl
 process_told_need n pt o m id t _ at le front num forwards = first_need n pt (Says (Line.Held id)) [] at tt
 

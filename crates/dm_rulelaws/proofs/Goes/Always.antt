@@ -1,7 +1,7 @@
 -- Wherever all of it holds, each directive has its group.
 use Rattle.dm_rulelaws.proofs.Names.{◌≡◌, ◌≢◌, ℕ, ◌+◌, ◌≤◌, ◌==◌, ◌&&◌, ◌||◌, Bool, true, false, not, List, [], ◌∷◌, refl, ap, ◌∙◌, sym, is_some, inl, inr, arith, ⊤, if◌then◌else◌, Option, None, Some, false≢true, Pid, pid_eq, MsgId}
 use Rattle.dm_rulelaws.proofs.Names.{PlainMessage, Boot, IsValid, Step, Line, MessageKind, child_number, migrates, Point, moved, Spelled, group_of, Spot, Queue, Inbox, standing, StandsOutside, Told, Target, is_kernels, IsStep, arrives_net}
-use Rattle.dm_rulelaws.proofs.Names.{resends_net, stands_right, StandsAsBag-elsewhere, Each, has_bytes, is_server, is_fixed, Life, OneKernel, pid_eq-is, cases_Bool, by_migrates, rooted, position_from, ◌++◌, length, Part, Of, Held}
+use Rattle.dm_rulelaws.proofs.Names.{resends_net, stands_right, StandsAsBag-elsewhere, Each, has_bytes, is_fixed, Life, OneKernel, pid_eq-is, cases_Bool, by_migrates, rooted, position_from, ◌++◌, length, Part, Of, Held}
 use Rattle.dm_rulelaws.proofs.Names.{to_kernel, sends_on, by_calls_off, called_parts, is_still}
 pub use Rattle.dm_rule.proofs.Moves.States.{front_one as stands_first}
 use Rattle.dm_rule.specs.Rule as rule
@@ -12,7 +12,8 @@ use Rattle.dm_rulelaws.proofs.Goes.Parts.{ArePlain, Can, Shape, Goes, goes, can_
 use Rattle.dm_rulelaws.proofs.Goes.Serves.{can_turn}
 use Rattle.dm_rulelaws.proofs.Goes.Turns.{no_preds, queue_drops}
 use Rattle.dm_rulelaws.proofs.Goes.Front.{here_free, begun, begun_sane, Calm, CanTurn, Front}
-use Rattle.dm_rulelaws.proofs.Goes.Servers.{can_handle}
+use Rattle.dm_rulelaws.proofs.Goes.Servers.{can_handle, server_number}
+use Rattle.dm_rulelaws.proofs.Names.{Place, ToBoard, Child, option_map, switchboard, manager}
 use Rattle.dm_rulelaws.proofs.Goes.Own.{FrontOwn, can_hear, sends_plain}
 
 -- the message at the front of an inbox
@@ -79,13 +80,21 @@ some_life (Some x) e = refl
 child_num : (b : Boot) (pt : Point) (p : Pid) (n : ℕ) → child_number pt.kernel p ≡ Some n → Run b pt → (p.num == 0) ≡ false
 child_num b pt p n is h = search (arith, some_life, pt.kernel.processes, child_made, pt.kernel, pt.kernel.manager.children, h.based.fits.children, h.based.phased.sane.sound.made.least)
 
+-- so are those that it knows the place of
+place_num : (b : Boot) (pt : Point) (p : Pid) (m : ℕ) (a : Place) (c d : Bool) (o : Option ℕ) → pid_eq p switchboard ≡ c → pid_eq p manager ≡ d → child_number pt.kernel p ≡ o → Run b pt
+    → (if c then Some (pt.addresses ToBoard) else if d then Some (record { at = m; moves = pt.view.moves p }) else option_map (λ (n : ℕ). pt.addresses (Child n)) o) ≡ Some a → (p.num == 0) ≡ false
+place_num b pt p m a true d o one two is h e = server_number p (ap (λ (c : Bool). c || pid_eq p manager) one)
+place_num b pt p m a false true o one two is h e = server_number p (ap (λ (c : Bool). c || pid_eq p manager) one ∙ two)
+place_num b pt p m a false false None one two is h e = absurd (let f : None ≡ Some a = e in cc)
+place_num b pt p m a false false (Some n) one two is h e = child_num b pt p n is h
+
 target_sort : (p : Pid) (m : ℕ) → is_fixed p ≡ false → own_sort MessageKind.Migrate p (Target m) ≡ true
 target_sort p m e = ap (λ (c : Bool). not c && true) e
 
 migrates_own : (b : Boot) (pt : Point) (p : Pid) (m : ℕ) → Run b pt → OwnsFit (moved pt (Line.Head (Step.Migrate p m)) pt.kernel).view (migrates pt p)
 migrates_own b pt p m h =
     by_migrates (OwnsFit (moved pt (Line.Head (Step.Migrate p m)) pt.kernel).view) pt p (NoOwns (tt, tt)) (NoOwns (tt, tt))
-    (λ n server is. FirstOwns (target_sort p m (ap (λ (c : Bool). c || is_server p) (child_num b pt p n is h) ∙ server), tt))
+    (λ a here knows. FirstOwns (target_sort p m (place_num b pt p pt.view.seat a (pid_eq p switchboard) (pid_eq p manager) (child_number pt.kernel p) refl refl refl h knows), tt))
 
 -- what a group asks for to keep the order of messages
 abbrev pub CalmFor : Point → Step → Type 0
@@ -97,10 +106,10 @@ CalmFor pt _ = ⊤
 -- a group, whether it receives, and its kernels' own messages
 pub record Group (b : Boot) (pt : Point) (d : Step) : Type 0 where
   pub goes : Goes (CalmFor pt d) b pt d
-  pub shape : Shape (view.actor d) (moved pt (Line.Head d) pt.kernel) goes.parts
+  pub shape : Shape (view.actor pt.view d) (moved pt (Line.Head d) pt.kernel) goes.parts
   pub owns : OwnsFit (moved pt (Line.Head d) pt.kernel).view goes.parts
 
-group_by : (b : Boot) (pt : Point) (d : Step) → Can (CalmFor pt d) (view.actor d) (moved pt (Line.Head d) pt.kernel) (rule.outcome b pt d) → Group b pt d
+group_by : (b : Boot) (pt : Point) (d : Step) → Can (CalmFor pt d) (view.actor pt.view d) (moved pt (Line.Head d) pt.kernel) (rule.outcome b pt d) → Group b pt d
 group_by b pt d c = record { goes = goes (CalmFor pt d) b pt d c.ps c.is c.does; shape = c.shape; owns = c.owns }
 
 pub group_on : (b : Boot) (pt : Point) (d : Step) → Run b pt → OwnTold pt → Group b pt d
@@ -109,7 +118,7 @@ group_on b pt (Step.Tick m) h own = search (arith, pt.view, group_by, can_net, r
 group_on b pt (Step.Deliver a c k) h own = search (arith, group_by, can_net, arrives_net)
 group_on b pt (Step.Migrate p m) h own =
     let q = moved pt (Line.Head (Step.Migrate p m)) pt.kernel in
-    group_by b pt (Step.Migrate p m) (can_plain ⊥ 0 q (migrates pt p) (λ c. c) (by_migrates (ArePlain q.view) pt p (refl, tt) (refl, tt) (λ n off is. (tt, tt))) (migrates_own b pt p m h))
+    group_by b pt (Step.Migrate p m) (can_plain ⊥ (view.actor pt.view (Step.Migrate p m)) q (migrates pt p) (λ c. c) (by_migrates (ArePlain q.view) pt p (refl, tt) (refl, tt) (λ a here knows. (tt, tt))) (migrates_own b pt p m h))
 group_on b pt (Step.CallOff p m) h own =
     let q = moved pt (Line.Head (Step.CallOff p m)) pt.kernel in
     let calm = CalmFor pt (Step.CallOff p m) in

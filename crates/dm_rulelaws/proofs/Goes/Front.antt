@@ -1,5 +1,5 @@
 -- The message at the front of the inbox: what it is for whom.
-use Rattle.dm_rulelaws.proofs.Names.{◌≡◌, ℕ, ◌≤◌, ◌==◌, Bool, true, false, if◌then◌else◌, nat_tests, List, [], ◌∷◌, refl, ap, ◌∙◌, sym, subst, is_some, arith, Option, None, Some, Pid, pid_eq, MsgId, id_eq, plain_kind, Step, Line}
+use Rattle.dm_rulelaws.proofs.Names.{◌≡◌, ℕ, ◌≤◌, ◌==◌, true, false, List, [], ◌∷◌, refl, ap, ◌∙◌, sym, subst, is_some, arith, Option, None, Some, Pid, pid_eq, MsgId, id_eq, plain_kind, Step, Line}
 use Rattle.dm_rulelaws.proofs.Names.{PlainMessage, PlainWhat, Boot, switchboard, manager, OneKernel, with_sent, answer_id, answer_to, Made, id_eq-same, pid_eq-same, sent_at, Point, moved, Inbox, times, standing, View, Told, Sane, is_server}
 use Rattle.dm_rulelaws.proofs.Names.{WhatFits, is_fixed, are_home, Part, is_still, is_here, bind, Label, MoveNote, Outcome, without_note, false≢true, Routes, answers_move, sort_of}
 use Rattle.dm_rulelaws.proofs.Goes.Parts.{does_label, Does, does_nothing, does_route, sane_by, Can}
@@ -53,15 +53,11 @@ told_kind b m o i x f = (f.run.based.phased.sane).tells.kind i x f.told f.there 
 pub told_receiver : (b : Boot) (m : ℕ) (o : Point) (i : MsgId) (x : PlainMessage) (f : Front b m o i x) → f.told.receiver ≡ x.to
 told_receiver b m o i x f = (f.run.based.phased.sane).tells.receiver i x f.told f.there f.told_is
 
--- a kernel or a server is at home here
+-- a kernel is at home here
 pub home_of : (b : Boot) (m : ℕ) (o : Point) (i : MsgId) (x : PlainMessage) → is_fixed x.to ≡ true → Front b m o i x → x.to.home ≡ m
 home_of b m o i x fixed f =
     let to = told_receiver b m o i x f in
     sym (ap (λ (q : Pid). q.home) to) ∙ sym (f.run.found.fixed i (Inbox m) f.told f.first f.told_is (ap is_fixed to ∙ fixed))
-
--- a server is here
-pub server_here : (b : Boot) (m : ℕ) (o : Point) (p : Pid) → Run b o → is_server p ≡ true → p.home ≡ m → o.view.known m p ≡ view.Here
-server_here b m o p run server home = run.based.known.server m p server ∙ ap (λ (c : Bool). if c then view.Here else view.Unknown) (let zero_ : (m == 0) ≡ true = grind (arith, nat_tests) in zero_)
 
 -- what the view does with a served message of this kind
 pub served_is : (b : Boot) (m : ℕ) (o : Point) (i : MsgId) (x : PlainMessage) (v : View) (w : PlainWhat) → x.what ≡ w → Front b m o i x → view.served_told v (o.view.told i) ≡ view.ends_by (sort_of (plain_kind w)) v (Some x.to)

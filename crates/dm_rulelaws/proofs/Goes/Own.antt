@@ -1,16 +1,16 @@
 -- A kernel's own message at the front of the inbox can be handled.
-use Rattle.dm_rulelaws.proofs.Names.{◌≡◌, ℕ, ◌/◌, ◌≤◌, ◌==◌, ◌&&◌, ◌||◌, Bool, true, false, not, List, [], ◌∷◌, ◌++◌, length, refl, ap, ◌∙◌, sym, subst, is_some, arith, if◌then◌else◌, Option, None, Some, false≢true, nat_tests, Pid, pid_eq}
-use Rattle.dm_rulelaws.proofs.Names.{MsgId, MessageKind, Line, Stage, Boot, switchboard, manager, bind, PlainProcess, Life, Alive, View, Told, Of, Known, Unknown, Here, Frozen, Forward, is_kernels, target_of, to_kernel, forwards_on}
-use Rattle.dm_rulelaws.proofs.Names.{accepts, takes_chunk, takes_block, gives_piece, told_step, chunks_of, pieces_of, updates, told_here, told_ended, process_told, told_server, sends_on, fits, free_room, kernel_hears, hears, is_between}
-use Rattle.dm_rulelaws.proofs.Names.{is_restart, kind_comes, knows, is_away, Moves, sender_in, receiver_in, told_between, IsIn, Point, Part, Says, Spot, Queue, Held, Inbox, times, standing, token_is, token_at, is_server, is_fixed, first_of}
+use Rattle.dm_rulelaws.proofs.Names.{◌≡◌, ℕ, ◌≤◌, ◌==◌, ◌&&◌, ◌||◌, Bool, true, false, not, List, [], ◌∷◌, ◌++◌, length, refl, ap, ◌∙◌, sym, subst, is_some, arith, if◌then◌else◌, Option, None, Some, false≢true, nat_tests, Pid}
+use Rattle.dm_rulelaws.proofs.Names.{MsgId, MessageKind, Line, Stage, Boot, manager, bind, PlainProcess, Life, Alive, View, Told, Of, Known, Unknown, Here, Frozen, Forward, is_kernels, target_of, to_kernel, forwards_on}
+use Rattle.dm_rulelaws.proofs.Names.{accepts, takes_chunk, takes_block, gives_piece, told_step, chunks_of, pieces_of, updates, told_here, told_ended, process_told, sends_on, fits, free_room, kernel_hears, hears, is_between}
+use Rattle.dm_rulelaws.proofs.Names.{is_restart, kind_comes, knows, is_away, Moves, sender_in, receiver_in, told_between, IsIn, Point, Part, Says, Spot, Queue, Held, Inbox, times, standing, token_is, token_at, is_server, first_of}
 use Rattle.dm_rulelaws.proofs.Names.{eq_self, inbox_is, about_same, kind_leaves, Label, MoveNote, Outcome, label_of, with_label, is_put, moved, answers_move, tells_asker, agrees, sort_of, leaves_for, pulls_piece, IsLeft, Token, LeftOver}
-use Rattle.dm_rulelaws.proofs.Names.{pulled, hears_here, Sort, buried, buries, inl, inr, preds_of, tells_between, tells_end}
+use Rattle.dm_rulelaws.proofs.Names.{pulled, Size, size_of, is_alive, Sort, buried, buries, inl, inr, preds_of, tells_between, tells_end}
 use Rattle.dm_rulelaws.proofs.Runs.{Run}
-use Rattle.dm_rulelaws.proofs.Own.Told.{Later, buries_later, OwnTold, own_sort, own_between, own_server, NoOwns, ThenOwns, forwarded_place, forwards_own, accepts_own, piece_own, chunk_own, block_own, moves_own, sends_own}
+use Rattle.dm_rulelaws.proofs.Own.Told.{Later, buries_later, OwnTold, own_sort, own_between, NoOwns, ThenOwns, forwarded_place, forwards_own, accepts_own, piece_own, chunk_own, block_own, moves_own, sends_own}
 use Rattle.dm_rulelaws.proofs.Goes.Parts.{buries_plain, ArePlain, Can, can_as, can_plain, does_line, Quiet, no_receive}
-use Rattle.dm_rulelaws.proofs.Goes.Front.{begun, Calm, CanTurn, does_answers, server_here}
-use Rattle.dm_rulelaws.proofs.Goes.Process.{forwards_plain, no_server}
-use Rattle.dm_rulelaws.proofs.Goes.Servers.{server_fixed}
+use Rattle.dm_rulelaws.proofs.Goes.Front.{begun, Calm, CanTurn, does_answers}
+use Rattle.dm_rulelaws.proofs.Goes.Process.{forwards_plain}
+use Rattle.dm_rulelaws.proofs.Sized.{sized}
 use Rattle.dm_onekernel.specs.Service as service
 use Rattle.dm_onekernel.specs.Step as kernel
 use Rattle.dm_rule.specs.Migrating as migrating
@@ -29,7 +29,7 @@ pub record FrontOwn (b : Boot) (m : ℕ) (o : Point) (i : MsgId) : Type 0 where
 pub own_sorted : (b : Boot) (m : ℕ) (o : Point) (i : MsgId) (f : FrontOwn b m o i) → own_sort f.told.kind f.told.receiver f.told.about ≡ true
 own_sorted b m o i f = f.own.own i f.told f.told_is f.mine
 
--- while a process moves it is alive
+-- a living process
 abbrev IsAlive : Option Life → Type 0
 IsAlive o = (y : PlainProcess) × (o ≡ Some (Alive y))
 
@@ -44,11 +44,6 @@ pub destination_knows : (k : MessageKind) (s d : ℕ) (id : Option MsgId) (n : K
 destination_knows k s d id n off e =
     sym (ap (λ (c : Bool). if c then kind_leaves k d n else if d == d then kind_comes k s n else is_away n) off ∙ ap (λ (c : Bool). if c then kind_comes k s n else is_away n) (eq_self d)) ∙ e
 
--- a server never moves
-pub server_leaves : (k : MessageKind) (d : ℕ) (c : Bool) → kind_leaves k d (if c then Here else Unknown) ≡ false
-server_leaves k d true = refl
-server_leaves k d false = refl
-
 -- the message of a process's migration, where it comes
 pub record Coming (b : Boot) (m : ℕ) (o : Point) (p : Pid) (k : MessageKind) : Type 0 where
   pub s : ℕ
@@ -60,24 +55,32 @@ pub record Coming (b : Boot) (m : ℕ) (o : Point) (p : Pid) (k : MessageKind) :
 coming_alive : (s : ℕ) (n : Known) (o : Option Life) → kind_comes MessageKind.Restart s n ≡ true → agrees n o ≡ true → IsAlive o
 coming_alive s n o h1 h2 = search arith
 
-moving_server : (c : Bool) (s d : ℕ) (k : MessageKind) (b : Boot) (m : ℕ) (o : Point) (p : Pid) (r : Bool) → is_server p ≡ c → is_restart k ≡ r → Run b o → (s == d) ≡ false → kind_leaves k d (o.view.known s p) ≡ true → (is_restart k ≡ true → kind_comes MessageKind.Restart s (o.view.known d p) ≡ true) → IsAlive (o.kernel.processes p)
-moving_server true s d k b m o p r server restart run off leave come = absurd (false≢true (sym (server_leaves k d (s == 0)) ∙ sym (ap (kind_leaves k d) (run.based.known.server s p server)) ∙ leave))
-moving_server false s d k b m o p true server restart run off leave come = coming_alive s (o.view.known d p) (o.kernel.processes p) (come restart) (run.based.known.agree d p server)
-moving_server false s d k b m o p false server restart run off leave come = search (arith, o.view.known s p, o.kernel.processes p, run.based.known.agree s p server)
+moving_process : (s d : ℕ) (k : MessageKind) (b : Boot) (m : ℕ) (o : Point) (p : Pid) (r : Bool) → is_server p ≡ false → is_restart k ≡ r → Run b o → (s == d) ≡ false → kind_leaves k d (o.view.known s p) ≡ true → (is_restart k ≡ true → kind_comes MessageKind.Restart s (o.view.known d p) ≡ true) → IsAlive (o.kernel.processes p)
+moving_process s d k b m o p true server restart run off leave come = coming_alive s (o.view.known d p) (o.kernel.processes p) (come restart) (run.based.known.agree d p server)
+moving_process s d k b m o p false server restart run off leave come = search (arith, o.view.known s p, o.kernel.processes p, run.based.known.agree s p server)
 
 pub is_it : (k : MessageKind) → is_restart k ≡ true → k ≡ MessageKind.Restart
 is_it MessageKind.Restart e = refl
 is_it _ e = absurd (false≢true e)
 
-moving_alive : (b : Boot) (m : ℕ) (o : Point) (p : Pid) (k : MessageKind) → Run b o → Coming b m o p k → IsAlive (o.kernel.processes p)
-moving_alive b m o p k run c =
-    let off = apart_is (is_between k) c.s c.d c.phase.apart in
-    moving_server (is_server p) c.s c.d k b m o p (is_restart k) refl refl run off (source_knows k c.s c.d c.id (o.view.known c.s p) (c.phase.known c.s))
-    (λ r. ap (λ (j : MessageKind). kind_comes j c.s (o.view.known c.d p)) (sym (is_it k r)) ∙ destination_knows k c.s c.d c.id (o.view.known c.d p) off (c.phase.known c.d))
+-- what moves is a process that lives, or a server
+moving_alive : (b : Boot) (m : ℕ) (o : Point) (p : Pid) (k : MessageKind) → Run b o → Coming b m o p k → is_alive o.kernel p ≡ true
+moving_alive b m o p k run c = by (is_server p) refl
+  where
+    off : (c.s == c.d) ≡ false
+    off = apart_is (is_between k) c.s c.d c.phase.apart
 
--- the process of a message is alive, and where all is taken it is the message of its migration
+    by : (e : Bool) → is_server p ≡ e → is_alive o.kernel p ≡ true
+    by true server = ap (λ (d : Bool). d || is_some (kernel.alive (o.kernel.processes p))) server
+    by false server =
+        ap (λ (d : Bool). d || is_some (kernel.alive (o.kernel.processes p))) server
+        ∙ ap (λ (l : Option Life). is_some (kernel.alive l))
+        (moving_process c.s c.d k b m o p (is_restart k) server refl run off (source_knows k c.s c.d c.id (o.view.known c.s p) (c.phase.known c.s))
+        (λ r. ap (λ (j : MessageKind). kind_comes j c.s (o.view.known c.d p)) (sym (is_it k r)) ∙ destination_knows k c.s c.d c.id (o.view.known c.d p) off (c.phase.known c.d))).1
+
+-- what a message is of has a size, and where all is taken it is the message of its migration
 record Hearing (b : Boot) (m : ℕ) (o : Point) (p : Pid) (k : MessageKind) : Type 0 where
-  alive : IsAlive (o.kernel.processes p)
+  size : (x : Size) × (size_of o.kernel p ≡ Some x)
   all : k ≡ MessageKind.AllTaken → Coming b m o p k
 
 abbrev kind_in : Option Told → MessageKind
@@ -97,7 +100,7 @@ token_hearing b m o i p f k s d phase =
       phase = subst (λ (j : MessageKind). IsIn v p (Moves j s d (Some i))) kind_is (subst (IsIn v p) phase (h.each p));
       here = inbox_is m (sender_in k s d) (receiver_in k s d) (token.ways (Inbox m) f.first) ∙ ap (λ (j : MessageKind). receiver_in j s d) kind_is;
     } in
-    record { alive = moving_alive b m o p f.told.kind f.run c; all = λ e. c }
+    record { size = sized o.kernel p (moving_alive b m o p f.told.kind f.run c); all = λ e. c }
 
 left_hearing : (b : Boot) (m : ℕ) (o : Point) (i : MsgId) (p : Pid) (f : FrontOwn b m o i) → IsLeft o.view p (f.run.based.phased.phases.of p) i f.told → rule.is_stale o m i f.told.kind p ≡ false → Hearing b m o p f.told.kind
 left_hearing b m o i p f left fresh =
@@ -105,7 +108,7 @@ left_hearing b m o i p f left fresh =
     let h = f.run.based.phased.phases in
     let u = pulled v p (h.of p) i f.told m left f.first fresh in
     let c : Coming b m o p MessageKind.CallOff = record { s = u.s; d = u.d; id = u.id; phase = subst (IsIn v p) u.is (h.each p); here = u.here } in
-    record { alive = moving_alive b m o p MessageKind.CallOff f.run c; all = λ e. absurd (false≢true (sym (ap (λ (k : MessageKind). pulls_piece (sort_of k)) e) ∙ u.pulls)) }
+    record { size = sized o.kernel p (moving_alive b m o p MessageKind.CallOff f.run c); all = λ e. absurd (false≢true (sym (ap (λ (k : MessageKind). pulls_piece (sort_of k)) e) ∙ u.pulls)) }
 
 hearing : (b : Boot) (m : ℕ) (o : Point) (i : MsgId) (p : Pid) (f : FrontOwn b m o i) → is_between f.told.kind ≡ true → f.told.about ≡ Of p → rule.is_stale o m i f.told.kind p ≡ false → Hearing b m o p f.told.kind
 hearing b m o i p f between about fresh =
@@ -123,9 +126,12 @@ accepts_plain : (v : View) (from : ℕ) (p : Pid) (room : Bool) (slots blocks : 
 accepts_plain v from p true slots blocks = (refl, (tt, tt))
 accepts_plain v from p false slots blocks = (refl, (tt, tt))
 
-chunk_plain : (v : View) (i : MsgId) (p : Pid) (last : Bool) → ArePlain v (takes_chunk i p last)
-chunk_plain v i p true = (refl, (tt, tt))
-chunk_plain v i p false = (refl, (tt, tt))
+chunk_plain : (v : View) (i : MsgId) (p : Pid) (last server : Bool)
+    → ArePlain v (if last then (if server then Says (Line.Migration Stage.StateTaken p) ∷ Says (Line.Migration Stage.MemoryTaken p) ∷ to_kernel MessageKind.AllTaken i.from.home ∷ [] else Says (Line.Migration Stage.StateTaken p) ∷ to_kernel MessageKind.PullBlock i.from.home ∷ [])
+    else Says (Line.Proto i) ∷ to_kernel MessageKind.PullState i.from.home ∷ [])
+chunk_plain v i p true true = (refl, (refl, (tt, tt)))
+chunk_plain v i p true false = (refl, (tt, tt))
+chunk_plain v i p false server = (refl, (tt, tt))
 
 block_plain : (v : View) (i : MsgId) (p : Pid) (last : Bool) → ArePlain v (takes_block i p last)
 block_plain v i p true = (refl, (tt, tt))
@@ -161,11 +167,11 @@ can_asker C never b m o l p (Some n) r notes none quiet ends run =
       owns = NoOwns (tt, (tt, (tt, tt)));
     }
 
-can_told : (C : Type 0) (never : C → ⊥) (b : Boot) (m : ℕ) (o : Point) (i : MsgId) (p : Pid) (room : Bool × ℕ × ℕ) (x : PlainProcess) (k : MessageKind) (t : Told) → o.view.told i ≡ Some t → t.about ≡ Of p → is_between k ≡ true → (k ≡ MessageKind.AllTaken → Coming b m o p k) → Run b o → Can C m (begun o m) (told_step o m i p room x (sort_of k))
+can_told : (C : Type 0) (never : C → ⊥) (b : Boot) (m : ℕ) (o : Point) (i : MsgId) (p : Pid) (room : Bool × ℕ × ℕ) (x : Size) (k : MessageKind) (t : Told) → o.view.told i ≡ Some t → t.about ≡ Of p → is_between k ≡ true → (k ≡ MessageKind.AllTaken → Coming b m o p k) → Run b o → Can C m (begun o m) (told_step o m i p room x (sort_of k))
 can_told C never b m o i p room x MessageKind.Ask t told about e c run = can_plain C m (begun o m) (accepts i.from.home p room.0 room.1 room.2) never (accepts_plain (begun o m).view i.from.home p room.0 room.1 room.2) (accepts_own (begun o m).view i.from.home p room.0 room.1 room.2)
 can_told C never b m o i p room x MessageKind.Refuse t told about e c run = can_asker C never b m o (Line.Stays p) p (o.kernel.notes p) Outcome.Stayed refl refl refl (λ n. refl) run
 can_told C never b m o i p room x MessageKind.PullState t told about e c run = can_plain C m (begun o m) (gives_piece i MessageKind.State) never (refl, (tt, tt)) (piece_own (begun o m).view i MessageKind.State t p told about (λ a e. e))
-can_told C never b m o i p room x MessageKind.State t told about e c run = can_plain C m (begun o m) (takes_chunk i p (o.view.asked p == chunks_of x)) never (chunk_plain (begun o m).view i p (o.view.asked p == chunks_of x)) (chunk_own (begun o m).view i p (o.view.asked p == chunks_of x) t p told about)
+can_told C never b m o i p room x MessageKind.State t told about e c run = can_plain C m (begun o m) (takes_chunk i p (o.view.asked p == chunks_of x)) never (chunk_plain (begun o m).view i p (o.view.asked p == chunks_of x) (is_server p)) (chunk_own (begun o m).view i p (o.view.asked p == chunks_of x) t p told about)
 can_told C never b m o i p room x MessageKind.PullBlock t told about e c run = can_plain C m (begun o m) (gives_piece i MessageKind.Memory) never (refl, (tt, tt)) (piece_own (begun o m).view i MessageKind.Memory t p told about (λ a e. e))
 can_told C never b m o i p room x MessageKind.Memory t told about e c run = can_plain C m (begun o m) (takes_block i p (o.view.asked p == pieces_of x)) never (block_plain (begun o m).view i p (o.view.asked p == pieces_of x)) (block_own (begun o m).view i p (o.view.asked p == pieces_of x) t p told about)
 can_told C never b m o i p room x MessageKind.AllTaken t told about e all run = let c = all refl in grind (arith, nat_tests, can_leave, o.view.known, c.d, c.here, source_knows, c.s, c.id, c.phase.known, run.found.told)
@@ -174,14 +180,14 @@ can_told C never b m o i p room x MessageKind.CallOff t told about e c run = can
 can_told C never b m o i p room x _ t told about e c run = absurd (false≢true e)
 
 can_hear_of : (C : Type 0) (never : C → ⊥) (b : Boot) (m : ℕ) (o : Point) (i : MsgId) (t : Told) (p : Pid) (stale : Bool) → o.view.told i ≡ Some t → t.about ≡ Of p → is_between t.kind ≡ true → (stale ≡ false → Hearing b m o p t.kind) → Run b o
-    → Can C m (begun o m) (if stale then Some (Says (Line.Stale i) ∷ []) else bind (kernel.alive (o.kernel.processes p)) (λ (x : PlainProcess). told_step o m i p (fits (free_room b o m) (length x.memory / 256)) x (sort_of t.kind)))
+    → Can C m (begun o m) (if stale then Some (Says (Line.Stale i) ∷ []) else bind (size_of o.kernel p) (λ (x : Size). told_step o m i p (fits (free_room b o m) x.blocks) x (sort_of t.kind)))
 can_hear_of C never b m o i t p true told about between h run = can_plain C m (begun o m) (Says (Line.Stale i) ∷ []) never (refl, tt) (NoOwns (tt, tt))
 can_hear_of C never b m o i t p false told about between h run =
     let k = h refl in
-    let (y, alive) = k.alive in
-    can_as C m (begun o m) (bind (kernel.alive (o.kernel.processes p)) (λ (x : PlainProcess). told_step o m i p (fits (free_room b o m) (length x.memory / 256)) x (sort_of t.kind))) (told_step o m i p (fits (free_room b o m) (length y.memory / 256)) y (sort_of t.kind))
-    (ap (λ (l : Option Life). bind (kernel.alive l) (λ (x : PlainProcess). told_step o m i p (fits (free_room b o m) (length x.memory / 256)) x (sort_of t.kind))) alive)
-    (can_told C never b m o i p (fits (free_room b o m) (length y.memory / 256)) y t.kind t told about between k.all run)
+    let (y, size) = k.size in
+    can_as C m (begun o m) (bind (size_of o.kernel p) (λ (x : Size). told_step o m i p (fits (free_room b o m) x.blocks) x (sort_of t.kind))) (told_step o m i p (fits (free_room b o m) y.blocks) y (sort_of t.kind))
+    (ap (λ (z : Option Size). bind z (λ (x : Size). told_step o m i p (fits (free_room b o m) x.blocks) x (sort_of t.kind))) size)
+    (can_told C never b m o i p (fits (free_room b o m) y.blocks) y t.kind t told about between k.all run)
 
 -- a message that tells of an end: the process is forgotten, and its predecessors are told
 can_bury : (C : Type 0) (never : C → ⊥) (m : ℕ) (o : Point) (i : MsgId) (t : Told) (p : Pid) → o.view.told i ≡ Some t → t.about ≡ Of p → Can C m (begun o m) (Some (buried o m i p))
@@ -200,7 +206,7 @@ can_kernel C never b m o i f num =
     let (which, p, about) = own_between f.told.kind f.told.receiver f.told.about (own_sorted b m o i f) num in
     let k = f.told.kind in
     let stale = rule.is_stale o m i k p in
-    let steps = if stale then Some (Says (Line.Stale i) ∷ []) else bind (kernel.alive (o.kernel.processes p)) (λ (x : PlainProcess). told_step o m i p (fits (free_room b o m) (length x.memory / 256)) x (sort_of k)) in
+    let steps = if stale then Some (Says (Line.Stale i) ∷ []) else bind (size_of o.kernel p) (λ (x : Size). told_step o m i p (fits (free_room b o m) x.blocks) x (sort_of k)) in
     elim which [
       | inl between ↦
           can_as C m (begun o m) (kernel_hears b o m i k f.told.about) steps (ap (kernel_hears b o m i k) about ∙ ap (λ (c : Bool). if c then Some (buried o m i p) else steps) (between_on (sort_of k) between))
@@ -210,11 +216,7 @@ can_kernel C never b m o i f num =
           (can_bury C never m o i f.told p f.told_is about)
     ]
 
--- a server
-can_server : (C : Type 0) (never : C → ⊥) (m : ℕ) (o : Point) (i : MsgId) (t : Told) (k : MessageKind) → k ≡ MessageKind.Update → Can C m (begun o m) (told_server o i t (sort_of k))
-can_server C never m o i t k e = can_as C m (begun o m) (told_server o i t (sort_of k)) (Some (updates o i t)) (ap (λ (k : MessageKind). told_server o i t (sort_of k)) e) (can_plain C m (begun o m) (updates o i t) never (refl, tt) (NoOwns (tt, tt)))
-
--- a process
+-- at a process or a server
 can_here : (C : Type 0) (never : C → ⊥) (m : ℕ) (o : Point) (i : MsgId) (t : Told) (k : MessageKind) → own_sort k t.receiver t.about ≡ true → (t.receiver.num == 0) ≡ false → Can C m (begun o m) (told_here o m i t (sort_of k))
 can_here C never m o i t MessageKind.Migrate e num = can_plain C m (begun o m) (if m == (target_of (Some t)) then Says (Line.Here i) ∷ [] else leaves_for t.receiver (target_of (Some t))) never (moves_plain (begun o m).view m i t.receiver (target_of (Some t)) (m == target_of (Some t))) (moves_own (begun o m).view i t.receiver (target_of (Some t)) (m == target_of (Some t)))
 can_here C never m o i t MessageKind.Update e num = can_plain C m (begun o m) (updates o i t) never (refl, tt) (NoOwns (tt, tt))
@@ -223,36 +225,17 @@ can_here C never m o i t _ e num = absurd (grind (arith, nat_tests))
 can_over : (C : Type 0) (never : C → ⊥) (m : ℕ) (o : Point) (i : MsgId) (t : Told) (k : MessageKind) → own_sort k t.receiver t.about ≡ true → (t.receiver.num == 0) ≡ false → Can C m (begun o m) (told_ended i (sort_of k))
 can_over C never m o i t k h1 h2 = search (arith, can_plain)
 
-can_known : (C : Type 0) (never : C → ⊥) (b : Boot) (m : ℕ) (o : Point) (i : MsgId) (f : FrontOwn b m o i) (n : Known) → o.view.known m f.told.receiver ≡ n → (f.told.receiver.num == 0) ≡ false → pid_eq f.told.receiver switchboard ≡ false → pid_eq f.told.receiver manager ≡ false → Can C m (begun o m) (process_told o m i f.told n)
-can_known C never b m o i f Unknown is num one two = can_over C never m o i f.told f.told.kind (own_sorted b m o i f) num
-can_known C never b m o i f Here is num one two =
-    can_as C m (begun o m) (process_told o m i f.told Here) (told_here o m i f.told (sort_of f.told.kind)) (no_server (pid_eq f.told.receiver switchboard) (pid_eq f.told.receiver manager) _ _ _ one two) (can_here C never m o i f.told f.told.kind (own_sorted b m o i f) num)
-can_known C never b m o i f (Forward at_ moves) is num one two = can_plain C m (begun o m) (forwards_on o.addresses i f.told.kind manager at_) never (forwards_plain (begun o m).view o.addresses i f.told.kind manager at_ (ap is_some f.told_is))
+can_known : (C : Type 0) (never : C → ⊥) (b : Boot) (m : ℕ) (o : Point) (i : MsgId) (f : FrontOwn b m o i) (n : Known) → o.view.known m f.told.receiver ≡ n → (f.told.receiver.num == 0) ≡ false → Can C m (begun o m) (process_told o m i f.told n)
+can_known C never b m o i f Unknown is num = can_over C never m o i f.told f.told.kind (own_sorted b m o i f) num
+can_known C never b m o i f Here is num = can_here C never m o i f.told f.told.kind (own_sorted b m o i f) num
+can_known C never b m o i f (Forward at_ moves) is num = can_plain C m (begun o m) (forwards_on o.addresses i f.told.kind manager at_) never (forwards_plain (begun o m).view o.addresses i f.told.kind manager at_ (ap is_some f.told_is))
     (forwards_own (begun o m).view o.addresses i f.told.kind manager at_ (forwarded_place (begun o m).view i at_ f.told at_ moves f.told_is is) (λ e. refl))
-can_known C never b m o i f _ is num one two = can_plain C m (begun o m) (Says (Line.Held i) ∷ []) never (refl, tt) (NoOwns (tt, tt))
-
-can_told_server : (C : Type 0) (never : C → ⊥) (b : Boot) (m : ℕ) (o : Point) (i : MsgId) (f : FrontOwn b m o i) → (f.told.receiver.num == 0) ≡ false → is_server f.told.receiver ≡ true → hears_here o m i f.told ≡ told_server o i f.told (sort_of f.told.kind)
-    → Can C m (begun o m) (process_told o m i f.told (o.view.known m f.told.receiver))
-can_told_server C never b m o i f num server is =
-    let here = server_here b m o f.told.receiver f.run server (sym (f.run.found.fixed i (Inbox m) f.told f.first f.told_is (server_fixed f.told.receiver server))) in
-    can_as C m (begun o m) (process_told o m i f.told (o.view.known m f.told.receiver)) (told_server o i f.told (sort_of f.told.kind)) (ap (process_told o m i f.told) here ∙ is)
-    (can_server C never m o i f.told f.told.kind (own_server f.told.kind f.told.receiver f.told.about (own_sorted b m o i f) num server))
-
-can_other : (C : Type 0) (never : C → ⊥) (b : Boot) (m : ℕ) (o : Point) (i : MsgId) (f : FrontOwn b m o i) (d e : Bool) → (f.told.receiver.num == 0) ≡ false → pid_eq f.told.receiver switchboard ≡ d → pid_eq f.told.receiver manager ≡ e → Can C m (begun o m) (process_told o m i f.told (o.view.known m f.told.receiver))
-can_other C never b m o i f false false num one two =
-    let server : is_server f.told.receiver ≡ false = ap (λ (c : Bool). c || pid_eq f.told.receiver manager) one ∙ two in
-    let loose : is_fixed f.told.receiver ≡ false = ap (λ (c : Bool). c || is_server f.told.receiver) num ∙ server in
-    can_known C never b m o i f (o.view.known m f.told.receiver) refl num one two
-can_other C never b m o i f true e num one two = can_told_server C never b m o i f num (ap (λ (c : Bool). c || pid_eq f.told.receiver manager) one) (ap (λ (c : Bool). if c then told_server o i f.told (sort_of f.told.kind) else if pid_eq f.told.receiver manager then told_server o i f.told (sort_of f.told.kind) else told_here o m i f.told (sort_of f.told.kind)) one)
-can_other C never b m o i f false true num one two =
-    can_told_server C never b m o i f num (ap (λ (c : Bool). c || pid_eq f.told.receiver manager) one ∙ two)
-    (ap (λ (c : Bool). if c then told_server o i f.told (sort_of f.told.kind) else if pid_eq f.told.receiver manager then told_server o i f.told (sort_of f.told.kind) else told_here o m i f.told (sort_of f.told.kind)) one
-    ∙ ap (λ (c : Bool). if c then told_server o i f.told (sort_of f.told.kind) else told_here o m i f.told (sort_of f.told.kind)) two)
+can_known C never b m o i f _ is num = can_plain C m (begun o m) (Says (Line.Held i) ∷ []) never (refl, tt) (NoOwns (tt, tt))
 
 can_by : (C : Type 0) (never : C → ⊥) (b : Boot) (m : ℕ) (o : Point) (i : MsgId) (f : FrontOwn b m o i) (c : Bool) → (f.told.receiver.num == 0) ≡ c
     → Can C m (begun o m) (if c then kernel_hears b o m i f.told.kind f.told.about else process_told o m i f.told (o.view.known m f.told.receiver))
 can_by C never b m o i f true num = can_kernel C never b m o i f num
-can_by C never b m o i f false num = can_other C never b m o i f (pid_eq f.told.receiver switchboard) (pid_eq f.told.receiver manager) num refl refl
+can_by C never b m o i f false num = can_known C never b m o i f (o.view.known m f.told.receiver) refl num
 
 pub can_hear : (b : Boot) (m : ℕ) (o : Point) (i : MsgId) (is : List MsgId) → o.view.inbox m ≡ i ∷ is → FrontOwn b m o i → o.kernel.bag i ≡ None → CanTurn m o (rule.comes_to b o m i (o.kernel.bag i))
 can_hear b m o i is box f none =

@@ -213,10 +213,6 @@ forwards_plain v a i k sender to told = search arith
 pub no_server : {X : Type 0} (d e : Bool) (x y z : X) → d ≡ false → e ≡ false → (if d then x else if e then y else z) ≡ z
 no_server d e x y z h k = ap (λ (c : Bool). if c then x else if e then y else z) h ∙ ap (λ (c : Bool). if c then y else z) k
 
--- neither a kernel nor a server
-process_free : (x : PlainMessage) → (x.to.num == 0) ≡ false → pid_eq x.to switchboard ≡ false → pid_eq x.to manager ≡ false → is_fixed x.to ≡ false
-process_free x num one other = ap (λ (c : Bool). c || is_server x.to) num ∙ ap (λ (c : Bool). c || pid_eq x.to manager) one ∙ other
-
 -- a receiver that nothing is known of where its message comes has ended
 pub front_over : (b : Boot) (m : ℕ) (o : Point) (i : MsgId) (x : PlainMessage) → is_fixed x.to ≡ false → Front b m o i x → o.view.known m x.to ≡ view.Unknown → (y : Why) × (o.kernel.processes x.to ≡ Some (Ended y))
 front_over b m o i x free f none =
@@ -224,22 +220,30 @@ front_over b m o i x free f none =
     let (y, over) = unknown_over o i (Inbox m) f.told f.run.based.phased f.run.kept f.first f.told_is (ap is_fixed to ∙ free) (ap (o.view.known m) to ∙ none) in
     (y, ap o.kernel.processes (sym to) ∙ over)
 
-can_known : (b : Boot) (m : ℕ) (o : Point) (i : MsgId) (x : PlainMessage) (k : Known) → o.view.known m x.to ≡ k → agrees k (o.kernel.processes x.to) ≡ true → (x.to.num == 0) ≡ false → pid_eq x.to switchboard ≡ false → pid_eq x.to manager ≡ false → Front b m o i x → OwnTold o → CanTurn m o (rule.process_handles o m i x k)
-can_known b m o i x view.Unknown is agree num one other f own =
-    let (y, over) = front_over b m o i x (process_free x num one other) f is in
-    can_ended b m o i x y x.what refl num other over f (f.run.based.fits.messages i x f.there)
-can_known b m o i x view.Here is agree num one other f own =
-    let (y, alive) = alive_of (o.kernel.processes x.to) agree in
-    can_as (Calm m o) m (begun o m) (rule.process_handles o m i x view.Here) (rule.here_handles o m i x y x.what) (no_server (pid_eq x.to switchboard) (pid_eq x.to manager) _ _ _ one other ∙ ap (λ (l : Option Life). bind (kernel.alive l) (λ (p : PlainProcess). rule.here_handles o m i x p x.what)) alive)
-    (can_here b m o i x y x.what refl num other alive (here_free o.kernel o.view m x.to f.run.based.noted is) f (f.run.based.fits.messages i x f.there))
-can_known b m o i x (view.Frozen to) is agree num one other f own = can_plain (Calm m o) m (begun o m) (Says (Line.Held i) ∷ []) (λ c. false≢true (sym (ap is_still is) ∙ c.known x.to)) (refl, tt) (NoOwns (tt, tt))
-can_known b m o i x (view.Incoming from) is agree num one other f own = can_plain (Calm m o) m (begun o m) (Says (Line.Held i) ∷ []) (λ c. false≢true (sym (ap is_still is) ∙ c.known x.to)) (refl, tt) (NoOwns (tt, tt))
-can_known b m o i x (view.Forward at_ moves) is agree num one other f own =
+-- by what the machine knows of the receiver, be it a process or a server
+pub can_known : (b : Boot) (m : ℕ) (o : Point) (i : MsgId) (x : PlainMessage) (k : Known) → o.view.known m x.to ≡ k → (k ≡ view.Unknown → CanTurn m o (rule.ended_handles i x.what)) → (k ≡ view.Here → CanTurn m o (rule.handles_here o m i x)) → Front b m o i x → OwnTold o
+    → CanTurn m o (rule.process_handles o m i x k)
+can_known b m o i x view.Unknown is over here f own = over refl
+can_known b m o i x view.Here is over here f own = here refl
+can_known b m o i x (view.Frozen to) is over here f own = can_plain (Calm m o) m (begun o m) (Says (Line.Held i) ∷ []) (λ c. false≢true (sym (ap is_still is) ∙ c.known x.to)) (refl, tt) (NoOwns (tt, tt))
+can_known b m o i x (view.Incoming from) is over here f own = can_plain (Calm m o) m (begun o m) (Says (Line.Held i) ∷ []) (λ c. false≢true (sym (ap is_still is) ∙ c.known x.to)) (refl, tt) (NoOwns (tt, tt))
+can_known b m o i x (view.Forward at_ moves) is over here f own =
     let v = (begun o m).view in
     can_plain (Calm m o) m (begun o m) (forwards_on o.addresses i (plain_kind x.what) x.sender at_) (λ c. false≢true (sym (ap is_still is) ∙ c.known x.to)) (forwards_plain v o.addresses i (plain_kind x.what) x.sender at_ (ap is_some f.told_is))
     (forwards_own v o.addresses i (plain_kind x.what) x.sender at_ (forwarded_place v i at_ f.told at_ moves f.told_is (ap (o.view.known m) (told_receiver b m o i x f) ∙ is)) (λ e. own.sender i x f.there e))
 
-pub can_process : (b : Boot) (m : ℕ) (o : Point) (i : MsgId) (x : PlainMessage) → (x.to.num == 0) ≡ false → pid_eq x.to switchboard ≡ false → pid_eq x.to manager ≡ false → Front b m o i x → OwnTold o → CanTurn m o (rule.process_handles o m i x (o.view.known m x.to))
-can_process b m o i x num one other f own =
+-- a process that is here lives
+can_alive : (b : Boot) (m : ℕ) (o : Point) (i : MsgId) (x : PlainMessage) → o.view.known m x.to ≡ view.Here → (x.to.num == 0) ≡ false → pid_eq x.to switchboard ≡ false → pid_eq x.to manager ≡ false → Front b m o i x → CanTurn m o (rule.handles_here o m i x)
+can_alive b m o i x is num one other f =
     let server : is_server x.to ≡ false = ap (λ (c : Bool). c || pid_eq x.to manager) one ∙ other in
-    can_known b m o i x (o.view.known m x.to) refl (f.run.based.known.agree m x.to server) num one other f own
+    let (y, alive) = alive_of (o.kernel.processes x.to) (sym (ap (λ (k : Known). agrees k (o.kernel.processes x.to)) is) ∙ f.run.based.known.agree m x.to server) in
+    can_as (Calm m o) m (begun o m) (rule.handles_here o m i x) (rule.here_handles o m i x y x.what) (no_server (pid_eq x.to switchboard) (pid_eq x.to manager) _ _ _ one other ∙ ap (λ (l : Option Life). bind (kernel.alive l) (λ (p : PlainProcess). rule.here_handles o m i x p x.what)) alive)
+    (can_here b m o i x y x.what refl num other alive (here_free o.kernel o.view m x.to f.run.based.noted is) f (f.run.based.fits.messages i x f.there))
+
+pub can_process : (b : Boot) (m : ℕ) (o : Point) (i : MsgId) (x : PlainMessage) → (x.to.num == 0) ≡ false → pid_eq x.to switchboard ≡ false → pid_eq x.to manager ≡ false → Front b m o i x → OwnTold o → CanTurn m o (rule.process_handles o m i x (o.view.known m x.to))
+can_process b m o i x num one other f own = can_known b m o i x (o.view.known m x.to) refl
+    (λ none. (
+    let (y, over) = front_over b m o i x num f none in
+    can_ended b m o i x y x.what refl num other over f (f.run.based.fits.messages i x f.there)
+    ))
+    (λ is. can_alive b m o i x is num one other f) f own

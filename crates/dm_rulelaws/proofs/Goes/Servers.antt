@@ -1,7 +1,7 @@
 -- A message for a kernel or a server at the front of the inbox can be handled.
 use Rattle.dm_rulelaws.proofs.Names.{◌≡◌, ℕ, zero, suc, ◌+◌, ◌==◌, ◌&&◌, ◌||◌, ◌++◌, Bool, true, false, List, [], ◌∷◌, length, refl, ap, ◌∙◌, sym, nat_lt, arith, if◌then◌else◌, slice_get, Option, None, Some, false≢true, nat_tests, Pid}
 use Rattle.dm_rulelaws.proofs.Names.{pid_of, pid_eq, PlainLink, MsgId, Label, Line, PlainMessage, PlainWhat, BootImage, Boot, first_number, switchboard, manager, bind, when, Pending, OneKernel, with_sent, answer_id, answer_to}
-use Rattle.dm_rulelaws.proofs.Names.{without_message, pid_eq-same, Point, moved, Part, Routes, is_server, IsPending, WhatFits, is_fixed, counts, ServerSends, handled, is_kernels, not_kernels, or_first, board_takes_lem, manager_takes_lem}
+use Rattle.dm_rulelaws.proofs.Names.{without_message, pid_eq-same, Point, moved, Part, Routes, is_server, IsPending, WhatFits, counts, ServerSends, handled, is_kernels, not_kernels, board_takes_lem, manager_takes_lem}
 use Rattle.dm_rulelaws.proofs.Names.{is_for, PendingKind, code_of_outcome, PlainProcess}
 use Rattle.dm_onekernel.specs.Switchboard as board
 use Rattle.dm_onekernel.specs.Manager as manage
@@ -12,8 +12,11 @@ use Rattle.dm_rulelaws.proofs.Own.Told.{OwnTold, HaveNoOwn}
 use Rattle.dm_rulelaws.proofs.Goes.Parts.{said, no_receive, does_route, Can, can_as, can_say}
 use Rattle.dm_rulelaws.proofs.Goes.Serves.{never_counted}
 use Rattle.dm_rulelaws.proofs.Goes.Front.{begun, Calm, CanTurn, Front, name_of, home_of, process_not_kernel, process_not_board, process_not_manager, answer_there, does_routes}
-use Rattle.dm_rulelaws.proofs.Goes.Front.{sent_there, server_here}
-use Rattle.dm_rulelaws.proofs.Goes.Process.{can_process}
+use Rattle.dm_rulelaws.proofs.Goes.Front.{sent_there}
+use Rattle.dm_rulelaws.proofs.Goes.Process.{can_known, can_process, front_over}
+use Rattle.dm_rulelaws.proofs.Based.Rows.{made_server}
+use Rattle.dm_rule.specs.View as view
+use Rattle.dm_rulelaws.proofs.Names.{is_some, subst}
 use Rattle.dm_rulelaws.proofs.Order.Lines.{Last, next_id}
 
 get_is : {X : Type 0} (xs : List X) (k : ℕ) → nat_lt k (length xs) ≡ true → (x : X) × (slice_get xs k ≡ Some x)
@@ -21,7 +24,7 @@ get_is [] k e = absurd (let f : nat_lt k 0 ≡ false = grind (arith, nat_tests) 
 get_is (x ∷ xs) zero e = (x, refl)
 get_is (x ∷ xs) (suc k) e = get_is xs k (let f : nat_lt k (length xs) ≡ true = grind (arith, nat_tests) in f)
 
-server_number : (p : Pid) → is_server p ≡ true → (p.num == 0) ≡ false
+pub server_number : (p : Pid) → is_server p ≡ true → (p.num == 0) ≡ false
 server_number p h1 = search (arith, p.num)
 
 can_created : (b : Boot) (m : ℕ) (o : Point) (i : MsgId) (x : PlainMessage) (image : ℕ) (links : List PlainLink) (g : BootImage) → x.what ≡ PlainWhat.Create image links → x.to.home ≡ m → service.is_kernel o.kernel x.to ≡ true → slice_get o.kernel.images image ≡ Some g → Front b m o i x
@@ -65,7 +68,7 @@ can_kernel b m o i x (PlainWhat.Create image links) is num f h =
     let r = rule.free_room b o m in
     can_as (Calm m o) m (begun o m) (rule.kernel_handles b o m i (PlainWhat.Create image links)) (rule.creation_parts o m i r (Some g)) (ap (rule.creation_parts o m i r) here)
     (can_if (Calm m o) m (begun o m) (rule.has_room r g.blocks) (rule.says (Label.Created i (pid_of m (first_number + s.made m)))) (rule.says (Label.NoSpace i r.slots r.blocks)) (Routes (answer_id i) ∷ [])
-    (can_created b m o i x image links g is (home_of b m o i x (ap (λ (c : Bool). c || is_server x.to) num) f) kern found f) (can_no_space b m o i x image links r.slots r.blocks is kern f))
+    (can_created b m o i x image links g is (home_of b m o i x num f) kern found f) (can_no_space b m o i x image links r.slots r.blocks is kern f))
 can_kernel b m o i x any_ is num f h = search (arith, process_not_kernel, server_number)
 
 routes_quiet : (k : Option PlainMessage) → no_receive (said (rule.routes k)) ≡ true
@@ -76,7 +79,7 @@ routes_own : (k : Option PlainMessage) → HaveNoOwn (rule.routes k)
 routes_own None = tt
 routes_own (Some y) = (tt, tt)
 
--- a server's message is its last, and comes from its home
+-- a server's message is its last, and has its home in its name
 record Sends (m : ℕ) (o : Point) (u : OneKernel) (k : Option PlainMessage) : Type 0 where
   fresh : (y : PlainMessage) → k ≡ Some y → counts o.kernel y.id ≡ false
   last : (y : PlainMessage) → k ≡ Some y → counts u (next_id y.id) ≡ false
@@ -85,11 +88,11 @@ record Sends (m : ℕ) (o : Point) (u : OneKernel) (k : Option PlainMessage) : T
 took_last : (b : Boot) (m : ℕ) (o : Point) (i : MsgId) (x : PlainMessage) (u : OneKernel) (k : Option PlainMessage) (y : PlainMessage) → Sends m o u k → k ≡ Some y → is_kernels y.id ≡ false → Front b m o i x → Last (with_sent u k) (handled (begun o m).view i) y.id
 took_last b m o i x u k y sends e other f = search (arith, sends.home, y.id, sends.last, never_counted, f.run.based.phased.sane, sends.fresh)
 
-can_take : (b : Boot) (m : ℕ) (o : Point) (i : MsgId) (x : PlainMessage) (u : OneKernel) (k : Option PlainMessage) → kernel.step o.kernel (Label.Took i) ≡ Some (with_sent u k) → Sends m o u k → Front b m o i x → CanTurn m o (Some (rule.says (Label.Took i) ∷ rule.routes k))
-can_take b m o i x u k step sends f =
+can_take : (b : Boot) (m : ℕ) (o : Point) (i : MsgId) (x : PlainMessage) (u : OneKernel) (k : Option PlainMessage) → kernel.step o.kernel (Label.Took i) ≡ Some (with_sent u k) → Sends 0 o u k → (Calm m o → m ≡ 0) → Front b m o i x → CanTurn m o (Some (rule.says (Label.Took i) ∷ rule.routes k))
+can_take b m o i x u k step sends at f =
     let t = with_sent u k in
     can_say (Calm m o) m (begun o m) (Label.Took i) t (rule.routes k) step (routes_quiet k) (routes_own k)
-    (does_routes (Calm m o) (moved (begun o m) (Line.Label (Label.Took i)) t) k (λ y e. sent_there u k y e) (λ y e c s. took_last b m o i x u k y sends e (not_kernels s.r s.e t y.id y (sent_there u k y e) s.sound) f))
+    (does_routes (Calm m o) (moved (begun o m) (Line.Label (Label.Took i)) t) k (λ y e. sent_there u k y e) (λ y e c s. took_last b m o i x u k y (subst (λ (n : ℕ). Sends n o u k) (sym (at c)) sends) e (not_kernels s.r s.e t y.id y (sent_there u k y e) s.sound) f))
 
 -- what the servers send
 board_sends : (m : ℕ) (o : Point) (i : MsgId) (x : PlainMessage) (k : board.BoardTook) → ServerSends switchboard o.kernel.switchboard.sent k.answer k.switchboard.sent → m ≡ 0 → Sends m o (record (without_message o.kernel i) { switchboard = k.switchboard }) k.answer
@@ -104,9 +107,6 @@ at_server x m e home = let z : x.to.home ≡ 0 = grind (arith, nat_tests) in sym
 at_manager : (x : PlainMessage) (m : ℕ) → pid_eq x.to manager ≡ true → x.to.home ≡ m → m ≡ 0
 at_manager x m e home = let z : x.to.home ≡ 0 = grind (arith, nat_tests) in sym home ∙ z
 
-pub server_fixed : (p : Pid) → is_server p ≡ true → is_fixed p ≡ true
-server_fixed p e = or_first (p.num == 0) (is_server p) e
-
 can_board : (b : Boot) (m : ℕ) (o : Point) (i : MsgId) (x : PlainMessage) (w : PlainWhat) → x.what ≡ w → (x.to.num == 0) ≡ false → pid_eq x.to switchboard ≡ true → Front b m o i x → WhatFits o.kernel i x w
     → CanTurn m o (rule.board_took i (board.board_takes o.kernel.switchboard x w))
 can_board b m o i x (PlainWhat.User code channel body links) is num one f h =
@@ -117,7 +117,7 @@ can_board b m o i x (PlainWhat.User code channel body links) is num one f h =
     ap (λ (o_ : Option PlainMessage). bind o_ (service.takes s i)) f.there
     ∙ ap (λ (c : Bool). if c then bind (board.board_takes s.switchboard x x.what) (λ (t : board.BoardTook). Some (service.switchboard_took s i t)) else if pid_eq x.to manager then bind (manage.manager_takes s.manager s.machines (length s.images) x x.what) (λ (t : manage.ManagerTook). Some (service.manager_took s i t)) else None) one
     ∙ ap (λ (v : PlainWhat). bind (board.board_takes s.switchboard x v) (λ (t : board.BoardTook). Some (service.switchboard_took s i t))) is in
-    can_take b m o i x u k.answer step (board_sends m o i x k (board_takes_lem s.switchboard x (PlainWhat.User code channel body links) k refl).2 (at_server x m one (home_of b m o i x (server_fixed x.to (ap (λ (c : Bool). c || pid_eq x.to manager) one)) f))) f
+    can_take b m o i x u k.answer step (board_sends 0 o i x k (board_takes_lem s.switchboard x (PlainWhat.User code channel body links) k refl).2 refl) (λ c. at_server x m one (c.front i f.rest x f.box f.there)) f
 can_board b m o i x any_ is num one f h = search (arith, process_not_board)
 
 can_manage : (b : Boot) (m : ℕ) (o : Point) (i : MsgId) (x : PlainMessage) (w : PlainWhat) (k : manage.ManagerTook) → x.what ≡ w → pid_eq x.to switchboard ≡ false → pid_eq x.to manager ≡ true → manage.manager_takes o.kernel.manager o.kernel.machines (length o.kernel.images) x w ≡ Some k → Front b m o i x
@@ -132,7 +132,7 @@ can_manage b m o i x w k is one two takes f =
     ∙ ap (λ (v : PlainWhat). bind (manage.manager_takes s.manager s.machines (length s.images) x v) (λ (t : manage.ManagerTook). Some (service.manager_took s i t))) is
     ∙ ap (λ (t : Option manage.ManagerTook). bind t (λ (t : manage.ManagerTook). Some (service.manager_took s i t))) takes in
     can_as (Calm m o) m (begun o m) (rule.manager_parts i (manage.manager_takes s.manager s.machines (length s.images) x w)) (rule.manager_parts i (Some k)) (ap (rule.manager_parts i) takes)
-    (can_take b m o i x u k.message step (manager_sends m o i x k (manager_takes_lem s.manager s.machines (length s.images) x w k takes).2.sends (at_manager x m two (home_of b m o i x (server_fixed x.to (ap (λ (c : Bool). c || pid_eq x.to manager) one ∙ two)) f))) f)
+    (can_take b m o i x u k.message step (manager_sends 0 o i x k (manager_takes_lem s.manager s.machines (length s.images) x w k takes).2.sends refl) (λ c. at_manager x m two (c.front i f.rest x f.box f.there)) f)
 
 pub pending_is : (kind : PendingKind) (o : Option Pending) → is_for kind o ≡ true → (r : Pending) × (o ≡ Some r)
 pending_is kind None e = cc
@@ -164,22 +164,27 @@ can_manager b m o i x (PlainWhat.Moved outcome) is num one two f h =
     can_manage b m o i x (PlainWhat.Moved outcome) (manage.answers_over (record g { pending = manage.without_pending x.id.n g.pending }) r.answer (code_of_outcome outcome) []) is one two (ap (manage.takes_answer g x.id.n g.children (code_of_outcome outcome) []) found) f
 can_manager b m o i x any_ is num one two f h = search (arith, process_not_manager)
 
+-- a server is never over
+never_over : {X : Type 0} (b : Boot) (m : ℕ) (o : Point) (i : MsgId) (x : PlainMessage) → (x.to.num == 0) ≡ false → is_server x.to ≡ true → Front b m o i x → o.view.known m x.to ≡ view.Unknown → X
+never_over b m o i x num server f none =
+    let (y, over) = front_over b m o i x num f none in
+    absurd (false≢true (sym (made_server o.kernel x.to f.run.based.phased.sane.sound.made (ap is_some over)) ∙ server))
+
 -- a message whose receiver is no kernel
 can_other : (b : Boot) (m : ℕ) (o : Point) (i : MsgId) (x : PlainMessage) (d e : Bool) → (x.to.num == 0) ≡ false → pid_eq x.to switchboard ≡ d → pid_eq x.to manager ≡ e → Front b m o i x → OwnTold o → CanTurn m o (rule.process_handles o m i x (o.view.known m x.to))
 can_other b m o i x true e num one two f own =
     let server : is_server x.to ≡ true = ap (λ (c : Bool). c || pid_eq x.to manager) one in
     let took = rule.board_took i (board.board_takes o.kernel.switchboard x x.what) in
-    can_as (Calm m o) m (begun o m) (rule.process_handles o m i x (o.view.known m x.to)) took
-    (ap (rule.process_handles o m i x) (server_here b m o x.to f.run server (home_of b m o i x (server_fixed x.to server) f)) ∙ ap (λ (c : Bool). if c then took else if pid_eq x.to manager then rule.manager_parts i (manage.manager_takes o.kernel.manager o.kernel.machines (length o.kernel.images) x x.what) else bind (kernel.alive (o.kernel.processes x.to)) (λ (p : PlainProcess). rule.here_handles o m i x p x.what)) one)
-    (can_board b m o i x x.what refl num one f (f.run.based.fits.messages i x f.there))
+    let rest = if pid_eq x.to manager then rule.manager_parts i (manage.manager_takes o.kernel.manager o.kernel.machines (length o.kernel.images) x x.what) else bind (kernel.alive (o.kernel.processes x.to)) (λ (p : PlainProcess). rule.here_handles o m i x p x.what) in
+    can_known b m o i x (o.view.known m x.to) refl (λ none. never_over b m o i x num server f none)
+    (λ here. can_as (Calm m o) m (begun o m) (rule.handles_here o m i x) took (ap (λ (c : Bool). if c then took else rest) one) (can_board b m o i x x.what refl num one f (f.run.based.fits.messages i x f.there))) f own
 can_other b m o i x false true num one two f own =
     let server : is_server x.to ≡ true = ap (λ (c : Bool). c || pid_eq x.to manager) one ∙ two in
     let took = rule.manager_parts i (manage.manager_takes o.kernel.manager o.kernel.machines (length o.kernel.images) x x.what) in
-    let own_ = bind (kernel.alive (o.kernel.processes x.to)) (λ (p : PlainProcess). rule.here_handles o m i x p x.what) in
-    can_as (Calm m o) m (begun o m) (rule.process_handles o m i x (o.view.known m x.to)) took
-    (ap (rule.process_handles o m i x) (server_here b m o x.to f.run server (home_of b m o i x (server_fixed x.to server) f))
-    ∙ ap (λ (c : Bool). if c then rule.board_took i (board.board_takes o.kernel.switchboard x x.what) else if pid_eq x.to manager then took else own_) one ∙ ap (λ (c : Bool). if c then took else own_) two)
-    (can_manager b m o i x x.what refl num one two f (f.run.based.fits.messages i x f.there))
+    let rest = bind (kernel.alive (o.kernel.processes x.to)) (λ (p : PlainProcess). rule.here_handles o m i x p x.what) in
+    can_known b m o i x (o.view.known m x.to) refl (λ none. never_over b m o i x num server f none)
+    (λ here. can_as (Calm m o) m (begun o m) (rule.handles_here o m i x) took
+    (ap (λ (c : Bool). if c then rule.board_took i (board.board_takes o.kernel.switchboard x x.what) else if pid_eq x.to manager then took else rest) one ∙ ap (λ (c : Bool). if c then took else rest) two) (can_manager b m o i x x.what refl num one two f (f.run.based.fits.messages i x f.there))) f own
 can_other b m o i x false false num one two f own = can_process b m o i x num one two f own
 
 -- whoever the message is for

@@ -27,13 +27,13 @@ ord_begins q s v n a o = ord_view q s v (begins v n a) (thin_same q v (begins v 
 pub ord_head : (q : Which) (s : OneKernel) (v : View) (d : Step) → Ord q s v → Ord q s (view.after_head v d)
 ord_head q s v (Step.Turn m) o = ord_begins q s v m NothingElse o
 ord_head q s v (Step.Tick m) o = ord_begins q s v m NothingElse o
-ord_head q s v (Step.Migrate p m) o = ord_begins q s v 0 (view.Target m) o
+ord_head q s v (Step.Migrate p m) o = ord_begins q s v (view.actor v (Step.Migrate p m)) (view.Target m) o
 ord_head q s v (Step.CallOff p m) o = ord_begins q s v m NothingElse o
 ord_head q s v (Step.Deliver a c k) o =
     let w = begins v c NothingElse in
     ord_view q s w (view.with_pair w a c (marked (v.pair a c) k)) (thin_pair q w a c (marked (v.pair a c) k) refl) (ord_begins q s v c NothingElse o)
 
-head_acts : (v : View) (d : Step) → (view.after_head v d).acting ≡ view.actor d
+head_acts : (v : View) (d : Step) → (view.after_head v d).acting ≡ view.actor v d
 head_acts v (Step.Turn m) = refl
 head_acts v _ = refl
 
@@ -49,9 +49,9 @@ queued_to b at d n p i x run least there = ((run.based.queued n p i (let e : tim
 pub record Taking (b : Boot) (at : Point) (p : Pid) (i : MsgId) (next : Point) : Type 0 where
   pub d : Step
   pub run : Run b at
-  pub home : p.home ≡ view.actor d
+  pub home : p.home ≡ view.actor at.view d
   pub mask : ℕ
-  pub first : rule.first_awaited at.kernel mask ((view.after_head at.view d).queue (view.actor d) p) ≡ Some i
+  pub first : rule.first_awaited at.kernel mask ((view.after_head at.view d).queue (view.actor at.view d) p) ≡ Some i
   pub t : OneKernel
   pub step : kernel.step at.kernel (Label.Receive p i) ≡ Some t
   pub point : next ≡ moved (moved at (Line.Head d) at.kernel) (Line.Label (Label.Receive p i)) t
@@ -151,8 +151,8 @@ pub taken_order : (b : Boot) (at next : Point) (from to : Pid) (channel n : ℕ)
 taken_order b at next from to channel n x take there on o =
     let pt = moved at (Line.Head take.d) at.kernel in
     subst (λ (z : Point). Ord (which from to channel (suc n)) z.kernel z.view) (sym take.point)
-    (taken_by (view.actor take.d) pt from to channel n take.mask x take.t (sane_by at (Line.Head take.d) at.kernel refl refl take.run.based.phased.sane) (head_acts at.view take.d) take.home take.first take.step there
-    (λ least. queued_to b at take.d (view.actor take.d) to (id_of from n) x take.run least there) on (ord_head (which from to channel 0) at.kernel at.view take.d o))
+    (taken_by (view.actor at.view take.d) pt from to channel n take.mask x take.t (sane_by at (Line.Head take.d) at.kernel refl refl take.run.based.phased.sane) (head_acts at.view take.d) take.home take.first take.step there
+    (λ least. queued_to b at take.d (view.actor at.view take.d) to (id_of from n) x take.run least there) on (ord_head (which from to channel 0) at.kernel at.view take.d o))
 
 -- what a reception takes is from the floor on
 pub taken_bound : (b : Boot) (at next : Point) (from to : Pid) (channel floor k : ℕ) (y : PlainMessage) → Taking b at to (id_of from k) next → at.kernel.bag (id_of from k) ≡ Some y → channel_in y.what ≡ Some channel → Ord (which from to channel floor) at.kernel at.view → floor ≤ k
@@ -234,9 +234,9 @@ home_is : (m : ℕ) (o : Option PlainMessage) (x : PlainMessage) → o ≡ Some 
 home_is m None x e h = cc
 home_is m (Some y) x e h = let f : y ≡ x = cc in let g : y.to.home ≡ m = grind (arith, nat_tests) in ap (λ (v : PlainMessage). v.to.home) (sym f) ∙ g
 
-taking_home : (b : Boot) (pt : Point) (d : Step) (p : Pid) (mask : ℕ) (i : MsgId) → Stays b pt → rule.first_awaited pt.kernel mask ((view.after_head pt.view d).queue (view.actor d) p) ≡ Some i → p.home ≡ view.actor d
+taking_home : (b : Boot) (pt : Point) (d : Step) (p : Pid) (mask : ℕ) (i : MsgId) → Stays b pt → rule.first_awaited pt.kernel mask ((view.after_head pt.view d).queue (view.actor pt.view d) p) ≡ Some i → p.home ≡ view.actor pt.view d
 taking_home b pt d p mask i h first =
-    let m = view.actor d in
+    let m = view.actor pt.view d in
     let a = first_is pt.kernel mask ((view.after_head pt.view d).queue m p) i first in
     let stands = a.stands in
     let to = queued_to b pt d m p i a.x h.both.run a.stands a.there in
@@ -244,7 +244,7 @@ taking_home b pt d p mask i h first =
     ap (λ (q : Pid). q.home) (sym to) ∙ home_is m (pt.kernel.bag i) a.x a.there (queued_home pt.kernel m (pt.view.queue m p) i ((homes_of h.r h.e pt h.home).queue m p) least)
 
 -- a point's group, where it receives
-pub taking_of : (b : Boot) (pt : Point) (d : Step) (w : Spelled) (g : Goes (CalmFor pt d) b pt d) (h : Stays b pt) (r : Reception (view.actor d) (moved pt (Line.Head d) pt.kernel) g.parts) → g.w ≡ w → Taking b pt r.p r.i w.point
+pub taking_of : (b : Boot) (pt : Point) (d : Step) (w : Spelled) (g : Goes (CalmFor pt d) b pt d) (h : Stays b pt) (r : Reception (view.actor pt.view d) (moved pt (Line.Head d) pt.kernel) g.parts) → g.w ≡ w → Taking b pt r.p r.i w.point
 taking_of b pt d w g h r is = record {
   d = d;
   run = h.both.run;
@@ -280,7 +280,7 @@ find_taken b end pt mid es ls (z ∷ zs) later p r i j t on still asks leads ord
     let g : labels ls ≡ zs ++ Label.Receive p i ∷ later = cc in
     found_later b end pt mid (Label.Receive r j ∷ []) (z ∷ zs) zs later p i replays order (ap (λ y. y ∷ zs) f) (again zs g)
 
-find_by : (b : Boot) (end pt mid : Point) (d : Step) (w : Spelled) (es : List Step) (ls : List Line) (before later : List Label) (p : Pid) (i : MsgId) (g : Goes (CalmFor pt d) b pt d) → Shape (view.actor d) (moved pt (Line.Head d) pt.kernel) g.parts → g.w ≡ w → Stays b pt → Stays b w.point → AreStill es → AskNone ls
+find_by : (b : Boot) (end pt mid : Point) (d : Step) (w : Spelled) (es : List Step) (ls : List Line) (before later : List Label) (p : Pid) (i : MsgId) (g : Goes (CalmFor pt d) b pt d) → Shape (view.actor pt.view d) (moved pt (Line.Head d) pt.kernel) g.parts → g.w ≡ w → Stays b pt → Stays b w.point → AreStill es → AskNone ls
     → LeadsBy b w.point es ls end → ((k : Which) → Ord k pt.kernel pt.view → Ord k w.point.kernel w.point.view) → replay pt.kernel (said g.parts) ≡ Some w.point.kernel → said g.parts ++ labels ls ≡ before ++ Label.Receive p i ∷ later
     → ((more : List Label) → labels ls ≡ more ++ Label.Receive p i ∷ later → Reaches b end w.point more later p i) → Reaches b end pt before later p i
 find_by b end pt mid d w es ls before later p i g (Quiet quiet) same here on still asks leads order replays e again = search (arith, quiet_split, g.parts, found_later, w.point)

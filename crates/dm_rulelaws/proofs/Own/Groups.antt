@@ -9,6 +9,7 @@ use Rattle.dm_rulelaws.proofs.Own.Told.{OwnTold, own_sort, HasNoOwn, HaveNoOwn, 
 use Rattle.dm_rulelaws.proofs.Goes.Parts.{put_lines}
 use Rattle.dm_rulelaws.proofs.Goes.Always.{group_on}
 use Rattle.dm_rulelaws.proofs.Based.Needs.{by_puts}
+use Rattle.dm_rule.proofs.Phases.EndLines.{dropped_topic}
 
 -- a line that is no put
 own_by : (pt : Point) (l : Line) (o : Option Label) (s : OneKernel) → is_put l ≡ false → kernel_after pt.kernel o ≡ Some s → Sane pt → OwnTold pt → OwnTold (moved pt l s)
@@ -116,10 +117,6 @@ label_seen pt next l ls is leads =
     let g : moved pt (Line.Label l) s ≡ mid = cc in
     let e : mid ≡ next = cc in
     ap (λ (q : Point). q.view) (sym (g ∙ e))
-
-dropped_topic : (v : View) (id : MsgId) (o : Option Pid) → (view.dropped_for v id o).topic ≡ v.topic
-dropped_topic v id None = refl
-dropped_topic v id (Some p) = refl
 
 later_own : (a : About) (ps : List Part) (pt : Point) (w : Spelled) → AllSayable ps → Later a ps → pt.view.topic ≡ a → spelled pt ps ≡ Some w → Sane pt → OwnTold pt → OwnTold w.point
 later_own a [] pt w ok fit topic is sane h = let f : record { lines = []; point = pt } ≡ w = cc in subst (λ (x : Spelled). OwnTold x.point) f h

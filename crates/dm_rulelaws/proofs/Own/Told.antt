@@ -2,7 +2,7 @@
 use Rattle.dm_rulelaws.proofs.Names.{◌≡◌, ◌==◌, ◌&&◌, Bool, true, false, not, refl, ap, ◌∙◌, sym, Some, false≢true, Pid, MsgId, MessageKind, plain_kind, PlainMessage, is_told_back, is_between, Point, About, Target, Of, Told, is_kernels}
 use Rattle.dm_rulelaws.proofs.Names.{is_server, is_fixed, Sort, sort_of, arith, ℕ, List, [], ◌∷◌, ◌++◌, ⊤, if◌then◌else◌, Option, None, pid_of, Line, Stage, Addresses, Sender, to_kernel, forwards_on, accepts, takes_chunk, takes_block}
 use Rattle.dm_rulelaws.proofs.Names.{gives_piece, sends_on, label_of, Part, Says, Routes, Again, Owns, Transmits, View, Known, Forward, view_after, handled, receiver_of, Label, ◌⊎◌, subst, is_some, length, inl, inr, take, drop, PlainWhat}
-use Rattle.dm_rulelaws.proofs.Names.{switchboard, manager, Switchboard, Manager, OneKernel, with_sent, answer_to, without_message, Made, came, stayed, lands-is, Sound, by_step, answer_id, without_note, MoveNote, ◌||◌, buries, bury_is}
+use Rattle.dm_rulelaws.proofs.Names.{switchboard, manager, Switchboard, Manager, OneKernel, with_sent, answer_to, without_message, Made, came, stayed, lands-is, Sound, by_step, answer_id, without_note, MoveNote, buries, bury_is}
 use Rattle.dm_rulelaws.proofs.Names.{ends_with, map, preds_of, right_true, tells_between, tells_end, topic_by}
 use Rattle.dm_rule.specs.View.{Place}
 use Rattle.dm_rule.specs.View as view
@@ -26,7 +26,7 @@ abbrev pub is_target : About → Bool
 is_target (Target m) = true
 is_target _ = false
 
--- to a kernel, about a process; to a process or a server, about the place of a process; or to a process, about a machine
+-- to a kernel, about a process; or to a process or a server, about the place of a process, or about a machine
 abbrev pub to_kernels : Pid → About → Bool
 to_kernels q a = (q.num == 0) && is_process a
 
@@ -54,15 +54,12 @@ by_sort : (k : MessageKind) (s : Sort) (q : Pid) (a : About) → sort_of k ≡ s
 by_sort k (Sort.Between passage) q a is fits num = let (p, of) = about_of a (right_true (q.num == 0) (is_process a) fits) in (inl (ap tells_between is), p, of)
 by_sort k Sort.Buries q a is fits num = let (p, of) = about_of a (right_true (q.num == 0) (is_process a) fits) in (inr (bury_is k (ap tells_end is)), p, of)
 by_sort k Sort.Notice q a is fits num = absurd (false≢true (sym (ap (λ (c : Bool). not c && is_place a) num) ∙ fits))
-by_sort k Sort.Request q a is fits num = absurd (false≢true (sym (ap (λ (c : Bool). not (c || is_server q) && is_target a) num) ∙ fits))
+by_sort k Sort.Request q a is fits num = absurd (false≢true (sym (ap (λ (c : Bool). not c && is_target a) num) ∙ fits))
 by_sort k _ q a is fits num = absurd (false≢true fits)
 
 -- a migration's step, or a burial
 pub own_between : (k : MessageKind) (q : Pid) (a : About) → own_sort k q a ≡ true → (q.num == 0) ≡ true → ((is_between k ≡ true) ⊎ (k ≡ MessageKind.Bury)) × (p : Pid) × (a ≡ Of p)
 own_between k q a fits num = by_sort k (sort_of k) q a refl fits num
-
-pub own_server : (k : MessageKind) (q : Pid) (a : About) → own_sort k q a ≡ true → (q.num == 0) ≡ false → is_server q ≡ true → k ≡ MessageKind.Update
-own_server k q a h1 h2 h3 = search arith
 
 -- Where the parts of a group have kernels' own messages, and what these are about.
 
@@ -140,9 +137,15 @@ pub piece_own : (v : View) (i : MsgId) (k : MessageKind) (t : Told) (p : Pid) �
 piece_own v i k t p told about sort =
     ThenOwns (Line.Proto i) (to_kernel k i.from.home ∷ []) refl refl (sort (view_after v (Line.Proto i)).topic (proto_topic v i t p told about), tt)
 
+chunk_fits : (v : View) (i : MsgId) (q : Pid) (last server : Bool) (t : Told) (p : Pid) → v.told i ≡ Some t → t.about ≡ Of p
+    → OwnsFit v (if last then (if server then Says (Line.Migration Stage.StateTaken q) ∷ Says (Line.Migration Stage.MemoryTaken q) ∷ to_kernel MessageKind.AllTaken i.from.home ∷ [] else Says (Line.Migration Stage.StateTaken q) ∷ to_kernel MessageKind.PullBlock i.from.home ∷ [])
+    else Says (Line.Proto i) ∷ to_kernel MessageKind.PullState i.from.home ∷ [])
+chunk_fits v i q true true t p told about = ThenOwns (Line.Migration Stage.StateTaken q) (Says (Line.Migration Stage.MemoryTaken q) ∷ to_kernel MessageKind.AllTaken i.from.home ∷ []) refl refl (refl, tt)
+chunk_fits v i q true false t p told about = ThenOwns (Line.Migration Stage.StateTaken q) (to_kernel MessageKind.PullBlock i.from.home ∷ []) refl refl (refl, tt)
+chunk_fits v i q false server t p told about = piece_own v i MessageKind.PullState t p told about (λ a e. e)
+
 pub chunk_own : (v : View) (i : MsgId) (q : Pid) (last : Bool) (t : Told) (p : Pid) → v.told i ≡ Some t → t.about ≡ Of p → OwnsFit v (takes_chunk i q last)
-chunk_own v i q true t p told about = ThenOwns (Line.Migration Stage.StateTaken q) (to_kernel MessageKind.PullBlock i.from.home ∷ []) refl refl (refl, tt)
-chunk_own v i q false t p told about = piece_own v i MessageKind.PullState t p told about (λ a e. e)
+chunk_own v i q last t p told about = chunk_fits v i q last (is_server q) t p told about
 
 pub block_own : (v : View) (i : MsgId) (q : Pid) (last : Bool) (t : Told) (p : Pid) → v.told i ≡ Some t → t.about ≡ Of p → OwnsFit v (takes_block i q last)
 block_own v i q true t p told about = ThenOwns (Line.Migration Stage.MemoryTaken q) (to_kernel MessageKind.AllTaken i.from.home ∷ []) refl refl (refl, tt)

@@ -1,10 +1,10 @@
 -- A turn of a machine that has mail: its first line takes the message at the front, and the others bring nothing back.
-use Rattle.dm_settlelaws.proofs.Names.{◌≡◌, ℕ, ◌+◌, ◌/◌, ◌==◌, Bool, true, false, List, [], ◌∷◌, ◌++◌, length, refl, ap, ◌∙◌, sym, ⊤, if◌then◌else◌, slice_get, Option, None, Some, false≢true, Pid, pid_of, pid_eq, MsgId, MessageKind, Label}
+use Rattle.dm_settlelaws.proofs.Names.{◌≡◌, ℕ, ◌+◌, ◌==◌, ◌||◌, Bool, true, false, List, [], ◌∷◌, ◌++◌, length, refl, ap, ◌∙◌, sym, ⊤, if◌then◌else◌, slice_get, Option, None, Some, false≢true, Pid, pid_of, pid_eq, MsgId, MessageKind, Label}
 use Rattle.dm_settlelaws.proofs.Names.{Stage, plain_kind, PlainMessage, PlainWhat, Boot, BootImage, first_number, switchboard, manager, PlainProcess, answer_id, bind-is, Line, Sender, is_told_back, accepts, chunks_of, told_ended}
-use Rattle.dm_settlelaws.proofs.Names.{forwards_on, told_here, told_step, leaves, pieces_of, process_told, sends_on, told_server, takes_block, takes_chunk, to_kernel, Part, Says, Routes, Again, Owns, Transmits, Point, Room, board_took}
+use Rattle.dm_settlelaws.proofs.Names.{forwards_on, told_here, told_step, leaves, pieces_of, process_told, sends_on, takes_block, takes_chunk, to_kernel, Part, Says, Routes, Again, Owns, Transmits, Point, Room, board_took}
 use Rattle.dm_settlelaws.proofs.Names.{comes_to, creation_parts, drop_parts, ended_handles, fits, free_room, handles, has_room, hears, here_handles, kernel_handles, kernel_hears, landing_parts, manager_parts, process_handles, routes, says}
 use Rattle.dm_settlelaws.proofs.Names.{About, Known, Of, Told, target_of, touches, lets_go, told_lets_go, MoveNote, Outcome, answers_move, leaves_for, tells_asker, sort_of, bind, is_stale, map, buried, buries, ends_with, preds_of}
-use Rattle.dm_settlelaws.proofs.Names.{tells_end}
+use Rattle.dm_settlelaws.proofs.Names.{tells_end, is_server, Size, size_of}
 use Rattle.dm_onekernel.specs.Pieces as pieces
 use Rattle.dm_onekernel.specs.Switchboard as board
 use Rattle.dm_onekernel.specs.Manager as manage
@@ -25,12 +25,22 @@ abbrev pub AllCalm : List Part → Type 0
 AllCalm [] = ⊤
 AllCalm (p ∷ ps) = IsCalm p × AllCalm ps
 
--- the parts of such a turn; only a restart or a refusal brings messages back
+-- a message is routed
+abbrev pub is_route : Part → Bool
+is_route (Says l) = false
+is_route (Transmits a b l) = false
+is_route _ = true
+
+abbrev pub has_route : List Part → Bool
+has_route [] = false
+has_route (p ∷ ps) = is_route p || has_route ps
+
+-- the parts of such a turn, whose first line takes the front, or a message is routed; only a restart or a refusal brings messages back
 pub record Handles (i : MsgId) (told : Option Told) (ps : List Part) : Type 0 where
   pub first : Line
   pub rest : List Part
   pub is : ps ≡ Says first ∷ rest
-  pub takes : takes_front i (effect first)
+  pub takes : has_route rest ≡ false → takes_front i (effect first)
   pub touches_ : touches first ≡ false
   pub calm : AllCalm rest
   pub back : is_back (effect first) ≡ true → told_lets_go told ≡ true
@@ -42,14 +52,14 @@ HandlesBy i told o = (ps : List Part) → o ≡ Some ps → Handles i told ps
 quiet_row : (i : MsgId) (told : Option Told) (l : Line) (rest ps : List Part) → takes_front i (effect l) → touches l ≡ false → is_back (effect l) ≡ false → AllCalm rest → Some (Says l ∷ rest) ≡ Some ps → Handles i told ps
 quiet_row i told l rest ps takes touch back calm e =
     let f : Says l ∷ rest ≡ ps = cc in
-    record { first = l; rest = rest; is = sym f; takes = takes; touches_ = touch; calm = calm; back = λ g. absurd (false≢true (sym back ∙ g)) }
+    record { first = l; rest = rest; is = sym f; takes = λ last. takes; touches_ = touch; calm = calm; back = λ g. absurd (false≢true (sym back ∙ g)) }
 
 -- and one that does
 back_row : (i : MsgId) (told : Option Told) (l : Line) (rest ps : List Part) → takes_front i (effect l) → touches l ≡ false → told_lets_go told ≡ true
     → AllCalm rest → Some (Says l ∷ rest) ≡ Some ps → Handles i told ps
 back_row i told l rest ps takes touch lets calm e =
     let f : Says l ∷ rest ≡ ps = cc in
-    record { first = l; rest = rest; is = sym f; takes = takes; touches_ = touch; calm = calm; back = λ g. lets }
+    record { first = l; rest = rest; is = sym f; takes = λ last. takes; touches_ = touch; calm = calm; back = λ g. lets }
 
 drops_calm : (ids : List MsgId) → AllCalm (drop_parts ids)
 drops_calm [] = tt
@@ -168,8 +178,17 @@ accepts_row : (i : MsgId) (told : Option Told) (from : ℕ) (p : Pid) (c : Bool)
 accepts_row i told from p true slots blocks ps e = quiet_row i told (Line.Migration Stage.Accepted p) (to_kernel MessageKind.PullState from ∷ []) ps tt refl refl (tt, tt) e
 accepts_row i told from p false slots blocks ps e = quiet_row i told (Line.Lacks p slots blocks) (to_kernel MessageKind.Refuse from ∷ []) ps tt refl refl (tt, tt) e
 
+-- the last chunk; of a server the second line takes it
+last_row : (i : MsgId) (told : Option Told) (p : Pid) (server : Bool) (ps : List Part) → is_server p ≡ server
+    → Some (if server then Says (Line.Migration Stage.StateTaken p) ∷ Says (Line.Migration Stage.MemoryTaken p) ∷ to_kernel MessageKind.AllTaken i.from.home ∷ [] else Says (Line.Migration Stage.StateTaken p) ∷ to_kernel MessageKind.PullBlock i.from.home ∷ []) ≡ Some ps → Handles i told ps
+last_row i told p true ps is e =
+    let rest = Says (Line.Migration Stage.MemoryTaken p) ∷ to_kernel MessageKind.AllTaken i.from.home ∷ [] in
+    let f : Says (Line.Migration Stage.StateTaken p) ∷ rest ≡ ps = cc in
+    record { first = Line.Migration Stage.StateTaken p; rest = rest; is = sym f; takes = λ last. absurd (false≢true (sym last)); touches_ = refl; calm = ((refl, refl), (tt, tt)); back = λ g. absurd (false≢true g) }
+last_row i told p false ps is e = quiet_row i told (Line.Migration Stage.StateTaken p) (to_kernel MessageKind.PullBlock i.from.home ∷ []) ps is refl refl (tt, tt) e
+
 chunk_row : (i : MsgId) (told : Option Told) (p : Pid) (c : Bool) → HandlesBy i told (Some (takes_chunk i p c))
-chunk_row i told p true ps e = quiet_row i told (Line.Migration Stage.StateTaken p) (to_kernel MessageKind.PullBlock i.from.home ∷ []) ps tt refl refl (tt, tt) e
+chunk_row i told p true ps e = last_row i told p (is_server p) ps refl e
 chunk_row i told p false ps e = quiet_row i told (Line.Proto i) (to_kernel MessageKind.PullState i.from.home ∷ []) ps refl refl refl (tt, tt) e
 
 block_row : (i : MsgId) (told : Option Told) (p : Pid) (c : Bool) → HandlesBy i told (Some (takes_block i p c))
@@ -182,7 +201,7 @@ leaves_row i told p ids (Known.Frozen to) ps e =
     quiet_row i told (Line.SentOn p (length ids)) (sends_on to ids ++ tail) ps tt refl refl (both_calm (sends_on to ids) tail (sends_calm to ids) ((refl, refl), (tt, tt))) e
 leaves_row i told p ids k ps e = cc
 
-kernel_told_row : (pt : Point) (m : ℕ) (i : MsgId) (t : Told) (p : Pid) (room : Bool × ℕ × ℕ) (x : PlainProcess) (k : MessageKind) → t.kind ≡ k → HandlesBy i (Some t) (told_step pt m i p room x (sort_of k))
+kernel_told_row : (pt : Point) (m : ℕ) (i : MsgId) (t : Told) (p : Pid) (room : Bool × ℕ × ℕ) (x : Size) (k : MessageKind) → t.kind ≡ k → HandlesBy i (Some t) (told_step pt m i p room x (sort_of k))
 kernel_told_row pt m i t p room x MessageKind.Ask is ps e = accepts_row i (Some t) i.from.home p room.0 room.1 room.2 ps e
 kernel_told_row pt m i t p room x MessageKind.Refuse is ps e =
     back_row i (Some t) (Line.Stays p) (tells_asker (pt.kernel.notes p) Outcome.Stayed) ps tt refl (ap lets_go is) (asker_calm (pt.kernel.notes p) Outcome.Stayed) e
@@ -199,18 +218,14 @@ kernel_told_row pt m i t p room x k is ps e = cc
 
 kernel_hears_row : (b : Boot) (pt : Point) (m : ℕ) (i : MsgId) (t : Told) (a : About) → HandlesBy i (Some t) (kernel_hears b pt m i t.kind a)
 kernel_hears_row b pt m i t (Of p) ps e =
-    let steps = bind (kernel.alive (pt.kernel.processes p)) (λ x. told_step pt m i p (fits (free_room b pt m) (length x.memory / 256)) x (sort_of t.kind)) in
+    let steps = bind (size_of pt.kernel p) (λ x. told_step pt m i p (fits (free_room b pt m) x.blocks) x (sort_of t.kind)) in
     chosen i (Some t) (tells_end (sort_of t.kind)) (Some (buried pt m i p)) (if is_stale pt m i t.kind p then Some (Says (Line.Stale i) ∷ []) else steps)
     (λ ps e. quiet_row i (Some t) (Line.Buried i (length (preds_of pt m p))) (buries pt m p) ps refl refl refl (buries_calm (preds_of pt m p)) e)
     (chosen i (Some t) (is_stale pt m i t.kind p) (Some (Says (Line.Stale i) ∷ [])) steps (λ ps e. quiet_row i (Some t) (Line.Stale i) [] ps refl refl refl tt e)
     (λ ps e.
-    let (x, there, is) = bind-is (kernel.alive (pt.kernel.processes p)) (λ x. told_step pt m i p (fits (free_room b pt m) (length x.memory / 256)) x (sort_of t.kind)) ps e in
-    kernel_told_row pt m i t p (fits (free_room b pt m) (length x.memory / 256)) x t.kind refl ps is)) ps e
+    let (x, there, is) = bind-is (size_of pt.kernel p) (λ x. told_step pt m i p (fits (free_room b pt m) x.blocks) x (sort_of t.kind)) ps e in
+    kernel_told_row pt m i t p (fits (free_room b pt m) x.blocks) x t.kind refl ps is)) ps e
 kernel_hears_row b pt m i t a ps e = cc
-
-server_row : (pt : Point) (i : MsgId) (t : Told) (k : MessageKind) → HandlesBy i (Some t) (told_server pt i t (sort_of k))
-server_row pt i t MessageKind.Update ps e = quiet_row i (Some t) (Line.Updated i _) [] ps refl refl refl tt e
-server_row pt i t k ps e = cc
 
 moves_row : (m : ℕ) (i : MsgId) (told : Option Told) (p : Pid) (to : ℕ) (c : Bool) → HandlesBy i told (Some (if c then Says (Line.Here i) ∷ [] else Says (Line.Migration Stage.Frozen p) ∷ Says (Line.Migration Stage.Asked p) ∷ to_kernel MessageKind.Ask to ∷ []))
 moves_row m i told p to true ps e = quiet_row i told (Line.Here i) [] ps refl refl refl tt e
@@ -228,9 +243,7 @@ ended_told_row i t k ps e = cc
 
 process_told_row : (pt : Point) (m : ℕ) (i : MsgId) (t : Told) (k : Known) → HandlesBy i (Some t) (process_told pt m i t k)
 process_told_row pt m i t Known.Unknown ps e = ended_told_row i t t.kind ps e
-process_told_row pt m i t Known.Here ps e =
-    chosen i (Some t) (pid_eq t.receiver switchboard) (told_server pt i t (sort_of t.kind)) _ (server_row pt i t t.kind)
-    (chosen i (Some t) (pid_eq t.receiver manager) (told_server pt i t (sort_of t.kind)) _ (server_row pt i t t.kind) (here_told_row pt m i t t.kind)) ps e
+process_told_row pt m i t Known.Here ps e = here_told_row pt m i t t.kind ps e
 process_told_row pt m i t (Known.Forward at moves) ps e = forwards_row pt i (Some t) t.kind manager at ps e
 process_told_row pt m i t _ ps e = quiet_row i (Some t) (Line.Held i) [] ps refl refl refl tt e
 

@@ -4,8 +4,8 @@ use Rattle.dm_settlelaws.proofs.Names.{false≢true, eqb_tells, leb_tells, Pid, 
 use Rattle.dm_settlelaws.proofs.Names.{has_mail, group_of, turns, Held, Untaken, times, untaken, Pair, Told, View, view_after, group_is, hushed, pairs_stand_always, onward, pair_same, says_view, seen, touches, run_always, IsOfMove, within}
 use Rattle.dm_settlelaws.proofs.Names.{routed_always, leads_append, protocol_moves, IsLess, Left, Messages, Numbers, Releases, left, lets_go, numbers_left, one_each, one_let_go, told_lets_go, weight, weight_of, left_ways}
 use Rattle.dm_settlelaws.proofs.Effects.{Effect, Returns, back_in, effect, line_takes, takes_front}
-use Rattle.dm_settlelaws.proofs.Grows.{Grows, Longer, Lowers, calm_light, grows_on, grows_same, has_route, longer_last, no_back, parts_grow, parts_longer, parts_lower, touches_none}
-use Rattle.dm_settlelaws.proofs.Falls.Handles.{AllCalm, comes_row, is_back}
+use Rattle.dm_settlelaws.proofs.Grows.{Grows, Longer, Lowers, calm_light, grows_on, grows_same, longer_last, no_back, parts_grow, parts_longer, parts_lower, touches_none}
+use Rattle.dm_settlelaws.proofs.Falls.Handles.{AllCalm, comes_row, has_route, is_back}
 use Rattle.dm_settlelaws.proofs.Weights.{sum_falls, sum_le, weight_none}
 
 -- the front of an inbox that has mail
@@ -122,7 +122,7 @@ record Begins (pt : Point) (m : ℕ) (i : MsgId) (w : Point) : Type 0 where
   rest : List Part
   next : Point
   view_ : next.view ≡ seen pt.kernel (behind_head pt m).view first
-  takes : takes_front i (effect first)
+  takes : has_route rest ≡ false → takes_front i (effect first)
   touches_ : touches first ≡ false
   calm : AllCalm rest
   back : is_back (effect first) ≡ true → told_lets_go (pt.view.told i) ≡ true
@@ -145,11 +145,11 @@ begins b pt m i is w front e =
       on = (o.rest, o.on, o.end ∙ g.point);
     }
 
-first_takes : (f : MsgId → ℕ) (n : ℕ) (pt : Point) (m : ℕ) (i : MsgId) (is : List MsgId) (w : Point) (h : Begins pt m i w) → pt.view.inbox m ≡ i ∷ is → m < n
+first_takes : (f : MsgId → ℕ) (n : ℕ) (pt : Point) (m : ℕ) (i : MsgId) (is : List MsgId) (w : Point) (h : Begins pt m i w) → has_route h.rest ≡ false → pt.view.inbox m ≡ i ∷ is → m < n
     → weight_of f n h.next.view + f i ≤ weight_of f n pt.view + weight f (back_in (behind_head pt m).view (effect h.first))
-first_takes f n pt m i is w h front small =
+first_takes f n pt m i is w h last front small =
     let none = touches_none h.first h.touches_ in
-    let t = line_takes f n (behind_head pt m).view h.first i is none.0 front refl h.takes small in
+    let t = line_takes f n (behind_head pt m).view h.first i is none.0 front refl (h.takes last) small in
     let v : weight_of f n h.next.view ≡ weight_of f n (view_after (behind_head pt m).view h.first) = ap (weight_of f n) h.view_ in
     omega (arith, t, v)
 
@@ -171,19 +171,19 @@ less x y (FewerReleases a b) = Releases a b
 less x y (FewerMessages a b c) = Messages a b c
 
 -- without a route fewer are under way, or fewer that let go
-stays_falls : (b : Boot) (es : List Step) (pt : Point) (m : ℕ) (i : MsgId) (is : List MsgId) (w : Point) (h : Begins pt m i w) (n : ℕ) → IsValid b → Leads b (first_point b) es pt → m < n → pt.view.inbox m ≡ i ∷ is
+stays_falls : (b : Boot) (es : List Step) (pt : Point) (m : ℕ) (i : MsgId) (is : List MsgId) (w : Point) (h : Begins pt m i w) (n : ℕ) → IsValid b → Leads b (first_point b) es pt → m < n → pt.view.inbox m ≡ i ∷ is → has_route h.rest ≡ false
     → numbers_left b.numbers n w.view ≤ numbers_left b.numbers n pt.view → Lowers h.next.view w.view → IsFewer (left b.numbers n w.view) (left b.numbers n pt.view)
-stays_falls b es pt m i is w h n valid leads small front numbers low =
+stays_falls b es pt m i is w h n valid leads small front last numbers low =
     let f = one_let_go pt.view in
     let told : w.view.told ≡ pt.view.told = low.told ∙ first_told pt m i w h in
-    let t = first_takes f n pt m i is w h front small in
+    let t = first_takes f n pt m i is w h last front small in
     let none = back_none b es pt m (effect h.first) valid leads in
     let l = low.weight_ f n in
     let same : weight_of (one_let_go w.view) n w.view ≡ weight_of f n w.view = same_told n pt.view w.view told in
     elim (cases_Bool (is_back (effect h.first))) [
       | inl so ↦ let one : f i ≡ 1 = lets_one (pt.view.told i) (h.back so) in FewerReleases numbers (omega (arith, t, none, l, same, one))
       | inr not_so ↦
-          let t_ = first_takes one_each n pt m i is w h front small in
+          let t_ = first_takes one_each n pt m i is w h last front small in
           let empty : weight one_each (back_in (behind_head pt m).view (effect h.first)) ≡ 0 = ap (weight one_each) (no_back (behind_head pt m).view (effect h.first) not_so) in
           let l_ = low.weight_ one_each n in
           FewerMessages numbers (omega (arith, t, none, l, same)) (omega (arith, t_, empty, l_))
@@ -210,7 +210,7 @@ turn_fewer b es pt m w valid leads small mail e kept =
           FewerNumbers (numbers_fall b.numbers n pt.view w.point.view grows all (subst (λ (k : ℕ). all.from < k) machines ends.from) (subst (λ (k : ℕ). all.to < k) machines ends.to) (kept.counts all.from all.to))
       | inr not_so ↦
           let low : Lowers h.next.view w.point.view = subst (λ (q : Point). Lowers h.next.view q.view) end (parts_lower h.rest h.next x h.calm not_so on) in
-          stays_falls b es pt m i is w.point h n valid leads small front (numbers_stay b.numbers n pt.view w.point.view grows.ids) low
+          stays_falls b es pt m i is w.point h n valid leads small front not_so (numbers_stay b.numbers n pt.view w.point.view grows.ids) low
     ]
 
 pub turn_falls : (b : Boot) (es : List Step) (pt : Point) (m : ℕ) (w : Spelled) → IsValid b → Leads b (first_point b) es pt → m < pt.kernel.machines → has_mail pt.view m ≡ true → group_of b pt (Step.Turn m) ≡ Some w → IsKept b w.point

@@ -1,6 +1,6 @@
 -- What a turn does with a user message for a process, or with an update, where no process moves.
-use Rattle.dm_settlelaws.proofs.Names.{◌≡◌, ℕ, ◌/◌, ◌==◌, ◌||◌, Bool, true, false, not, List, [], ◌∷◌, length, refl, ap, ◌∙◌, sym, if◌then◌else◌, Option, None, Some, false≢true, Pid, pid_eq, MsgId, MessageKind, Label, Step, plain_kind}
-use Rattle.dm_settlelaws.proofs.Names.{PlainMessage, PlainWhat, Boot, manager, switchboard, PlainProcess, bind-is, Line, Sender, is_told_back, behind_count, told_ended, forwards_on, told_here, told_step, process_told, told_server}
+use Rattle.dm_settlelaws.proofs.Names.{◌≡◌, ℕ, ◌==◌, ◌||◌, Bool, true, false, not, List, [], ◌∷◌, refl, ap, ◌∙◌, sym, if◌then◌else◌, Option, None, Some, false≢true, Pid, pid_eq, MsgId, MessageKind, Label, Step, plain_kind}
+use Rattle.dm_settlelaws.proofs.Names.{PlainMessage, PlainWhat, Boot, manager, switchboard, PlainProcess, bind-is, Line, Sender, is_told_back, behind_count, told_ended, forwards_on, told_here, told_step, process_told, size_of}
 use Rattle.dm_settlelaws.proofs.Names.{place_told, Part, Says, Again, Owns, Point, comes_to, ended_handles, fits, free_room, handles, hears, here_handles, kernel_hears, outcome, process_handles, turns, TellsRight, About, Known, Of, Told}
 use Rattle.dm_settlelaws.proofs.Names.{View, handled, receiver_of, view_after, touches, is_server, is_fixed, is_moving, is_light_kind, says_put, not_is, acting_dropped, or-left, queued_acting, forwarded_acting, sort_of, handles_here}
 use Rattle.dm_settlelaws.proofs.Names.{or-right, bind, kernel_handles}
@@ -75,8 +75,8 @@ pub data Shape (v : View) (m : ℕ) (i : MsgId) (t : Told) (ps : List Part) : Ty
 stops : (v : View) (m : ℕ) (i : MsgId) (t : Told) (l : Line) (ps : List Part) → FrontLine i l → Some (Says l ∷ []) ≡ Some ps → Shape v m i t ps
 stops v m i t l ps h e = let f : Says l ∷ [] ≡ ps = cc in Stops l h (sym f)
 
-light_plain : (w : PlainWhat) (q : Pid) → is_light_kind (plain_kind w) q ≡ true → (plain_kind w ≡ MessageKind.User) × (is_fixed q ≡ false)
-light_plain (PlainWhat.User code channel body links) q e = (refl, not_is (is_fixed q) e)
+light_plain : (w : PlainWhat) (q : Pid) → is_light_kind (plain_kind w) q ≡ true → (plain_kind w ≡ MessageKind.User) × ((is_fixed q || is_server q) ≡ false)
+light_plain (PlainWhat.User code channel body links) q e = (refl, not_is (is_fixed q || is_server q) e)
 light_plain w q e = cc
 
 here_row : (pt : Point) (m : ℕ) (i : MsgId) (t : Told) (msg : PlainMessage) (x : PlainProcess) (w : PlainWhat) (ps : List Part) → plain_kind w ≡ MessageKind.User → here_handles pt m i msg x w ≡ Some ps → Shape pt.view m i t ps
@@ -107,10 +107,10 @@ bag_row : (b : Boot) (pt : Point) (m : ℕ) (i : MsgId) (t : Told) (msg : PlainM
     → handles b pt m i msg ≡ Some ps → Shape pt.view m i t ps
 bag_row b pt m i t msg ps light same to still e =
     let user = light_plain msg.what t.receiver (ap (λ (k : MessageKind). is_light_kind k t.receiver) (sym same) ∙ light) in
-    let fixed : is_fixed msg.to ≡ false = ap is_fixed (sym to) ∙ user.1 in
-    let num : (msg.to.num == 0) ≡ false = or-left (msg.to.num == 0) (is_server msg.to) fixed in
+    let fixed : (is_fixed msg.to || is_server msg.to) ≡ false = ap (λ (q : Pid). is_fixed q || is_server q) (sym to) ∙ user.1 in
+    let num : (msg.to.num == 0) ≡ false = or-left (is_fixed msg.to) (is_server msg.to) fixed in
     let row : handles b pt m i msg ≡ process_handles pt m i msg (pt.view.known m msg.to) = ap (λ (c : Bool). if c then kernel_handles b pt m i msg.what else process_handles pt m i msg (pt.view.known m msg.to)) num in
-    process_row pt m i t msg (pt.view.known m msg.to) ps (ap (pt.view.known m) to) (still m msg.to) (sym same) user.0 (or-left (t.receiver.num == 0) (is_server t.receiver) user.1) (or-right (msg.to.num == 0) (is_server msg.to) fixed) (sym row ∙ e)
+    process_row pt m i t msg (pt.view.known m msg.to) ps (ap (pt.view.known m) to) (still m msg.to) (sym same) user.0 (or-left (is_fixed t.receiver) (is_server t.receiver) user.1) (or-right (is_fixed msg.to) (is_server msg.to) fixed) (sym row ∙ e)
 
 -- one that isn't in the bag, by what was told of it
 here_told_row : (pt : Point) (m : ℕ) (i : MsgId) (t : Told) (k : MessageKind) (ps : List Part) → is_light_kind k t.receiver ≡ true → told_here pt m i t (sort_of k) ≡ Some ps → Shape pt.view m i t ps
@@ -121,19 +121,9 @@ ended_told_row : (pt : Point) (m : ℕ) (i : MsgId) (t : Told) (k : MessageKind)
 ended_told_row pt m i t MessageKind.Update ps light e = stops pt.view m i t (Line.Updated i 0) ps (updated i 0) e
 ended_told_row pt m i t k ps light e = cc
 
-server_row : (pt : Point) (m : ℕ) (i : MsgId) (t : Told) (k : MessageKind) (ps : List Part) → told_server pt i t (sort_of k) ≡ Some ps → Shape pt.view m i t ps
-server_row pt m i t MessageKind.Update ps e = stops pt.view m i t (Line.Updated i (behind_count pt.kernel pt.addresses t.receiver (place_told t.about))) ps (updated i _) e
-server_row pt m i t k ps e = cc
-
-own_told_row : (pt : Point) (m : ℕ) (i : MsgId) (t : Told) (y z : Bool) (ps : List Part) → is_light_kind t.kind t.receiver ≡ true
-    → (if y then told_server pt i t (sort_of t.kind) else if z then told_server pt i t (sort_of t.kind) else told_here pt m i t (sort_of t.kind)) ≡ Some ps → Shape pt.view m i t ps
-own_told_row pt m i t true z ps light e = server_row pt m i t t.kind ps e
-own_told_row pt m i t false true ps light e = server_row pt m i t t.kind ps e
-own_told_row pt m i t false false ps light e = here_told_row pt m i t t.kind ps light e
-
 told_row : (pt : Point) (m : ℕ) (i : MsgId) (t : Told) (k : Known) (ps : List Part) → pt.view.known m t.receiver ≡ k → is_moving k ≡ false → is_light_kind t.kind t.receiver ≡ true → (t.receiver.num == 0) ≡ false → process_told pt m i t k ≡ Some ps → Shape pt.view m i t ps
 told_row pt m i t view.Unknown ps known still light num e = ended_told_row pt m i t t.kind ps light e
-told_row pt m i t view.Here ps known still light num e = own_told_row pt m i t (pid_eq t.receiver switchboard) (pid_eq t.receiver manager) ps light e
+told_row pt m i t view.Here ps known still light num e = here_told_row pt m i t t.kind ps light e
 told_row pt m i t (view.Forward at moves) ps known still light num e =
     let f : forwards_on pt.addresses i t.kind manager at ≡ ps = cc in Goes at moves manager (pt.addresses (Sender i)).at num known (sym f)
 told_row pt m i t _ ps known still light num e = absurd (false≢true (sym still))
@@ -141,7 +131,7 @@ told_row pt m i t _ ps known still light num e = absurd (false≢true (sym still
 -- no such message is for a kernel
 kernel_none : (b : Boot) (pt : Point) (m : ℕ) (i : MsgId) (a : About) (ps : List Part) → kernel_hears b pt m i MessageKind.Update a ≡ Some ps → ⊥
 kernel_none b pt m i (Of p) ps e =
-    let (x, there, is) = bind-is (kernel.alive (pt.kernel.processes p)) (λ x. told_step pt m i p (fits (free_room b pt m) (length x.memory / 256)) x (sort_of MessageKind.Update)) ps e in cc
+    let (x, there, is) = bind-is (size_of pt.kernel p) (λ x. told_step pt m i p (fits (free_room b pt m) x.blocks) x (sort_of MessageKind.Update)) ps e in cc
 kernel_none b pt m i a ps e = cc
 
 kernel_row : (b : Boot) (pt : Point) (m : ℕ) (i : MsgId) (a : About) (q : Pid) (k : MessageKind) (ps : List Part) → is_light_kind k q ≡ true → (q.num == 0) ≡ true → kernel_hears b pt m i k a ≡ Some ps → ⊥

@@ -3,7 +3,8 @@ use Rattle.dm_settlelaws.proofs.Names.{◌≡◌, ℕ, zero, suc, ◌+◌, true,
 use Rattle.dm_settlelaws.proofs.Names.{MsgId, id_of, first_number, manager, switchboard, PlainProcess, Life, Alive, NamedLink, Pending, EndLine, Standing, block_line, joined_below, home_with, list_line, memory_lines, trimmed, or, Addresses}
 use Rattle.dm_settlelaws.proofs.Names.{Child, Name, Slot, Stood, alive_lines, awaits, child_lines, doing_of, each_process, end_lines, first_with, holding_lines, homes_with, inbox_lines, leading, link_lines, name_lines, pending_lines}
 use Rattle.dm_settlelaws.proofs.Names.{process_lines, queue_at, queue_lines, server_lines, slot_line, state_lines, stood, stood_at, stream_lines, Point, untaken, Known, View, AtRest, is_moving, at_rest_always, EndsAtRest, is_at_rest}
-use Rattle.dm_settlelaws.proofs.Names.{stands_here, standing_of, Bool, Place, Why}
+use Rattle.dm_settlelaws.proofs.Names.{stands_here, standing_of, Bool, Place, Why, if◌then◌else◌}
+use Rattle.dm_rule.specs.Ends.{each_holder, is_moved, place_line, sent_lines}
 
 -- no machine waits for a process, so each stands where it is
 abbrev StandsHere : Option Stood → Type 0
@@ -44,6 +45,7 @@ pub record Holds (f : EndLine → Bool) (pt : Point) : Type 0 where
   pub memory : (p : Pid) (k : ℕ) (bytes : List ℕ) → f (EndLine.Memory p k (record { items = bytes })) ≡ true
   pub link : (p : Pid) (k : ℕ) (l : PlainLink) (place : Place) → f (EndLine.Link p k (leading l place)) ≡ true
   pub server : (p : Pid) (sent : ℕ) → f (EndLine.Server p sent) ≡ true
+  pub place : (p : Pid) (s : Stood) → stands_here s.standing ≡ true → f (EndLine.Place p s.at s.standing) ≡ true
   pub name : (k : NamedLink) (place : Place) → f (EndLine.Name (record { items = k.name }) (leading k.link place)) ≡ true
   pub child : (n : ℕ) (p : Pid) (m : ℕ) → f (EndLine.Child n p m) ≡ true
   pub pending : All (λ (l : EndLine). f l ≡ true) (pending_lines pt.kernel.manager.pending)
@@ -77,6 +79,10 @@ module _ (f : EndLine → Bool) (pt : Point) (h : Holds f pt) where
   homes_rest : (g : Pid → List EndLine) (n : ℕ) → ((p : Pid) → AllRest (g p)) → AllRest (homes_with pt g n)
   homes_rest g zero each = none
   homes_rest g (suc home) each = both (homes_with pt g home) (home_with g home (pt.kernel.made home)) (homes_rest g home each) (home_rest g home (pt.kernel.made home) each)
+
+  -- and for the servers
+  holders_rest : (g : Pid → List EndLine) → ((p : Pid) → AllRest (g p)) → AllRest (each_holder pt g)
+  holders_rest g each = both (g switchboard ++ g manager) (each_process pt g) (both (g switchboard) (g manager) (each switchboard) (each manager)) (homes_rest g pt.kernel.machines each)
 
   -- a list that is empty has no line
   empty_rests : (g : List MsgId → EndLine) (is : List MsgId) → is ≡ [] → AllRest (list_line g is)
@@ -122,15 +128,30 @@ module _ (f : EndLine → Bool) (pt : Point) (h : Holds f pt) where
   children_rest a n [] = none
   children_rest a n (p ∷ ps) = more (EndLine.Child n p (a (Child n)).at) (child_lines a (n + 1) ps) (h.child n p (a (Child n)).at) (children_rest a (n + 1) ps)
 
-  server_rest : AllRest (server_lines pt)
-  server_rest =
+  if_rests : (c : Bool) (ls : List EndLine) → AllRest ls → AllRest (if c then ls else [])
+  if_rests true ls all = all
+  if_rests false ls all = none
+
+  place_rests : (p : Pid) (s : Stood) → stands_here s.standing ≡ true → AllRest (place_line p s)
+  place_rests p s here = if_rests (is_moved s) (EndLine.Place p s.at s.standing ∷ []) (more (EndLine.Place p s.at s.standing) [] (h.place p s here) none)
+
+  sent_rests : (p : Pid) (sent : ℕ) (o : Option Stood) → StandsHere o → AllRest (sent_lines p sent o)
+  sent_rests p sent None here = more (EndLine.Server p sent) [] (h.server p sent) none
+  sent_rests p sent (Some s) here = more (EndLine.Server p sent) (place_line p s) (h.server p sent) (place_rests p s (here s refl))
+
+  server_rest : AtRest pt → AllRest (server_lines pt)
+  server_rest rest =
       let names = name_lines pt.addresses 0 pt.kernel.switchboard.names in
       let children = child_lines pt.addresses 1 pt.kernel.manager.children in
       let pending = pending_lines pt.kernel.manager.pending in
-      let first = EndLine.Server switchboard pt.kernel.switchboard.sent in
-      let second = EndLine.Server manager pt.kernel.manager.sent in
-      both ((first ∷ second ∷ names) ++ children) pending
-      (both (first ∷ second ∷ names) children (more first (second ∷ names) (h.server switchboard pt.kernel.switchboard.sent) (more second names (h.server manager pt.kernel.manager.sent) (names_rest pt.addresses 0 pt.kernel.switchboard.names))) (children_rest pt.addresses 1 pt.kernel.manager.children))
+      let board = stood pt.view switchboard pt.kernel.machines in
+      let manages = stood pt.view manager pt.kernel.machines in
+      let first = sent_lines switchboard pt.kernel.switchboard.sent board in
+      let second = sent_lines manager pt.kernel.manager.sent manages in
+      both (first ++ second ++ names ++ children) pending
+      (both (first ++ second ++ names) children
+      (both (first ++ second) names (both first second (sent_rests switchboard pt.kernel.switchboard.sent board (stood_here pt switchboard rest)) (sent_rests manager pt.kernel.manager.sent manages (stood_here pt manager rest))) (names_rest pt.addresses 0 pt.kernel.switchboard.names))
+      (children_rest pt.addresses 1 pt.kernel.manager.children))
       h.pending
 
   -- queues
@@ -160,10 +181,9 @@ module _ (f : EndLine → Bool) (pt : Point) (h : Holds f pt) where
       (both (start ++ servers) queues
       (both start servers
       (more EndLine.Final processes h.final (homes_rest (λ p. process_lines pt p (pt.kernel.processes p)) n (λ p. process_rests p (pt.kernel.processes p) refl rest)))
-      server_rest)
+      (server_rest rest))
       (homes_rest (λ p. queue_at pt.view p (first_with standing_of pt.view p n)) n (λ p. queue_rests pt.view p (first_with standing_of pt.view p n))))
-      (machines_rest (λ m. each_process pt (λ p. list_line (EndLine.Holding m p) (pt.view.held m p))) n
-      (λ m. homes_rest (λ p. list_line (EndLine.Holding m p) (pt.view.held m p)) n (λ p. empty_rests (EndLine.Holding m p) (pt.view.held m p) (rest.held m p)))))
+      (machines_rest (λ m. each_holder pt (λ p. list_line (EndLine.Holding m p) (pt.view.held m p))) n (λ m. holders_rest (λ p. list_line (EndLine.Holding m p) (pt.view.held m p)) (λ p. empty_rests (EndLine.Holding m p) (pt.view.held m p) (rest.held m p)))))
       (machines_rest (λ m. list_line (EndLine.Inbox m) (pt.view.inbox m)) n (λ m. empty_rests (EndLine.Inbox m) (pt.view.inbox m) (rest.inbox m))))
       (machines_rest (λ a. joined_below (λ c. list_line (EndLine.Stream a c) (untaken (pt.view.pair a c))) n) n
       (λ a. machines_rest (λ c. list_line (EndLine.Stream a c) (untaken (pt.view.pair a c))) n (λ c. empty_rests (EndLine.Stream a c) (untaken (pt.view.pair a c)) (rest.untaken a c)))))
@@ -183,6 +203,7 @@ all_hold pt = record {
   memory = λ p k bytes. refl;
   link = λ p k l place. refl;
   server = λ p sent. refl;
+  place = λ p s here. here;
   name = λ k place. refl;
   child = λ n p m. refl;
   pending = pending_rest pt.kernel.manager.pending;

@@ -19,6 +19,7 @@ still_holds pt still = record {
   memory = λ p k bytes. refl;
   link = λ p k l place. refl;
   server = λ p sent. refl;
+  place = λ p s here. here;
   name = λ k place. refl;
   child = λ n p m. refl;
   pending = subst (λ (rs : List Pending). All (λ (l : EndLine). is_still l ≡ true) (pending_lines rs)) (sym still.pending) (All-nil (λ (l : EndLine). is_still l ≡ true));

@@ -4,6 +4,7 @@ use Rattle.dm_settlelaws.proofs.Names.{group_of, outstanding_count, resends, fir
 use Rattle.dm_settlelaws.proofs.Names.{calls_off_fit}
 use Rattle.dm_settlelaws.proofs.Rests.RestsComes.{arrives_rest, net_pairs}
 use Rattle.dm_settlelaws.proofs.Rests.RestsParts.{Rest, parts_rest}
+use Rattle.dm_rule.proofs.Phases.Rests.{eq_other}
 
 pub rest_start : (b : Boot) → Rest (first_view b).pair
 rest_start b a c e = record {
@@ -14,9 +15,6 @@ rest_start b a c e = record {
   answered = inl refl;
   heard = λ n h. absurd h;
 }
-
-flip : (a b : ℕ) → (a == b) ≡ false → (b == a) ≡ false
-flip a b e = grind (arith, nat_tests)
 
 pub rest_group : (b : Boot) (pt : Point) (d : Step) (w : Spelled) → IsStep pt.kernel.machines d → group_of b pt d ≡ Some w → Pairs pt.view → Rest pt.view.pair → Rest w.point.view.pair
 rest_group b pt (Step.Turn m) w fit is pairs h =
@@ -42,7 +40,7 @@ rest_group b pt (Step.Deliver a c k) w fit is pairs h =
     let said : spelled begun comes ≡ Some g.rest = ap (spelled begun) parts ∙ g.said in
     let pairs_are = net_pairs comes begun g.rest (arrives_net a c (f a c) (f c a) o) said in
     subst (λ (q : Point). Rest q.view.pair) g.point
-    (arrives_rest f g.rest.point.view.pair a c k o ac refl (pairs.stand.apart a c ac) (pairs.stand.apart c a (flip a c ac)) (pairs.kept a c) h pairs_are)
+    (arrives_rest f g.rest.point.view.pair a c k o ac refl (pairs.stand.apart a c ac) (pairs.stand.apart c a (eq_other a c ac)) (pairs.kept a c) h pairs_are)
 rest_group b pt (Step.Migrate p m) w fit is pairs h =
     let g = group_is b pt (Step.Migrate p m) w is in
     let begun = moved pt (Line.Head (Step.Migrate p m)) pt.kernel in

@@ -6,6 +6,7 @@ use Rattle.dm_settlelaws.proofs.Names.{or_first, or_second}
 use Rattle.dm_rule.specs.View as view
 use Rattle.dm_settlelaws.proofs.Rests.RestsPairs.{Comes, ack_back, ack_rests, acknowledged, data_back, data_rests, heard_of, repeated, sent_all}
 use Rattle.dm_settlelaws.proofs.Rests.RestsParts.{Rest, Two, rest_two}
+use Rattle.dm_rule.proofs.Phases.Rests.{eq_other}
 
 -- the pairs behind the parts of a delivery
 abbrev pub took : ℕ → Pair → Pair
@@ -80,13 +81,10 @@ repeats_only a b (n ∷ ns) f =
 not_back : (a b : ℕ) → (a == b) ≡ false → ((a == b) && (b == a)) ≡ false
 not_back a b e = grind (arith, nat_tests)
 
-flip : (a b : ℕ) → (a == b) ≡ false → (b == a) ≡ false
-flip a b e = grind (arith, nat_tests)
-
 -- a packet was marked; the one pair changed, and then the one that leads back
 both_change : (f g h : ℕ → ℕ → Pair) (a b k : ℕ) (p' q' : Pair) → (a == b) ≡ false → Only (at_pair f a b (marked (f a b) k)) g a b p' → Only g h b a q' → Two f h a b p' q'
 both_change f g h a b k p' q' ab x y = record {
-  there = y.others a b (not_back b a (flip a b ab)) ∙ x.there;
+  there = y.others a b (not_back b a (eq_other a b ab)) ∙ x.there;
   back = y.there;
   others = λ c d off apart. y.others c d apart ∙ x.others c d off ∙ set_other f a b (marked (f a b) k) c d off;
 }
@@ -148,7 +146,7 @@ took_next (suc fuel) m ks p among few =
 -- a data packet
 data_two : (f h : ℕ → ℕ → Pair) (a b k n : ℕ) (s : SentLoad) (p' : Pair) → (a == b) ≡ false → slice_get (f a b).wire k ≡ Some s → s.load ≡ Load.Data n → Comes (f a b) p' k n → Two f h a b p' (repeated (Load.Ack p'.taken) (f b a)) → Rest f → Rest h
 data_two f h a b k n s p' ab is carries c two r =
-    rest_two f h a b p' (repeated (Load.Ack p'.taken) (f b a)) two (data_rests (f a b) p' (f b a) k n s is carries c (r a b ab)) (data_back (f a b) p' (f b a) k n s is carries c (r b a (flip a b ab))) r
+    rest_two f h a b p' (repeated (Load.Ack p'.taken) (f b a)) two (data_rests (f a b) p' (f b a) k n s is carries c (r a b ab)) (data_back (f a b) p' (f b a) k n s is carries c (r b a (eq_other a b ab))) r
 
 -- its group's pairs: what comes of the one, and then the acknowledgement
 ack_only : (g : ℕ → ℕ → Pair) (b a t : ℕ) → Only g (at_pair g b a (repeated (Load.Ack t) (g b a))) b a (repeated (Load.Ack t) (g b a))
@@ -262,7 +260,7 @@ ack_comes f h a b k n s ab there carries apart r e =
       there = only.there ∙ ap (sent_all ns) (set_same g b a (acknowledged n (g b a)) ∙ ap (acknowledged n) back);
       others = λ c d off. only.others c d off ∙ set_other g b a (acknowledged n (g b a)) c d off;
     } in
-    let ba = flip a b ab in
+    let ba = eq_other a b ab in
     subst Rest (sym e)
     (rest_two f (pairs_parts mid (repeats b a ns)) a b (marked p k) (heard_of q n top) (both_change f g (pairs_parts mid (repeats b a ns)) a b k (marked p k) (heard_of q n top) ab (marked_only f a b k) last)
     (ack_back p q k n top s there carries (r a b ab)) (ack_rests p q k n top s there carries refl apart.gone apart.full (r b a ba)) r)
@@ -284,5 +282,5 @@ arrives_rest f h a b k None ab there apart back kept r e =
       back = set_other f a b (marked p k) b a (not_back a b ab);
       others = λ c d off other. set_other f a b (marked p k) c d off;
     } in
-    subst Rest (sym e) (rest_two f (at_pair f a b (marked p k)) a b p (f b a) two (r a b ab) (r b a (flip a b ab)) r)
+    subst Rest (sym e) (rest_two f (at_pair f a b (marked p k)) a b p (f b a) two (r a b ab) (r b a (eq_other a b ab)) r)
 arrives_rest f h a b k (Some s) ab there apart back kept r e = comes_rest f h a b k s s.load ab there refl apart back kept r e

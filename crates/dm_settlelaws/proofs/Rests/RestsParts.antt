@@ -3,6 +3,7 @@ use Rattle.dm_settlelaws.proofs.Names.{◌≡◌, ℕ, ◌+◌, ◌<◌, ◌==�
 use Rattle.dm_settlelaws.proofs.Names.{plain_kind, Line, Load, at_pair, Receiver, Part, Says, Routes, Again, Owns, Transmits, Spelled, goes_out, packet_line, puts, spelled, Point, after, Pair, View, gone_after, own_id, routed_on, set_other}
 use Rattle.dm_settlelaws.proofs.Names.{set_same, two_of, Paired, AllFit, AllFit-later, Fits, Onward, bind-is, fitting_goes, one_view, onward, pair_same, says_view, transmits_view, two_views, PairRests}
 use Rattle.dm_settlelaws.proofs.Rests.RestsPairs.{out_rests, repeat_back, repeat_rests, repeated, rests_back, route_rests, routed, routed_out}
+use Rattle.dm_rule.proofs.Phases.Rests.{eq_other}
 
 -- on each pair of different machines each has done its part
 abbrev pub Rest : (ℕ → ℕ → Pair) → Type 0
@@ -54,14 +55,10 @@ home_rest f a p h c d cd =
 pub home_rest_by : (f : ℕ → ℕ → Pair) (a b : ℕ) (p : Pair) → (a == b) ≡ true → Rest f → Rest (at_pair f a b p)
 home_rest_by f a b p e h = let is : a ≡ b = grind (arith, nat_tests) in subst (λ (n : ℕ). Rest (at_pair f a n p)) is (home_rest f a p h)
 
--- a packet of what has gone out, or an acknowledgement
-flip : (a b : ℕ) → (a == b) ≡ false → (b == a) ≡ false
-flip a b e = grind (arith, nat_tests)
-
 pub repeat_rest : (f : ℕ → ℕ → Pair) (a b : ℕ) (l : Load) → (a == b) ≡ false → gone_after l (f a b).gone ≡ (f a b).gone → Rest f → Rest (at_pair f a b (repeated l (f a b)))
 repeat_rest f a b l ab same h =
     rest_two f (at_pair f a b (repeated l (f a b))) a b (repeated l (f a b)) (f b a) (one_set f a b (repeated l (f a b)) ab)
-    (repeat_rests l (f a b) (f b a) same (h a b ab)) (repeat_back l (f a b) (f b a) (h b a (flip a b ab))) h
+    (repeat_rests l (f a b) (f b a) same (h a b ab)) (repeat_back l (f a b) (f b a) (h b a (eq_other a b ab))) h
 
 -- a route
 out_is : (a b : ℕ) (p : Pair) (id : MsgId) → (a == b) ≡ false → routed_on a b p id ≡ routed p id
@@ -71,7 +68,7 @@ pub route_rest : (f : ℕ → ℕ → Pair) (a b : ℕ) (id : MsgId) → (a == b
 route_rest f a b id ab out paired h =
     subst (λ (p : Pair). Rest (at_pair f a b p)) (sym (out_is a b (f a b) id ab))
     (rest_two f (at_pair f a b (routed (f a b) id)) a b (routed (f a b) id) (f b a) (one_set f a b (routed (f a b) id) ab)
-    (route_rests (f a b) (f b a) id out (paired.stand.apart a b ab).full (h a b ab)) (rests_back (f b a) (f a b) (routed (f a b) id) (λ l g. g) (λ n c. c) (h b a (flip a b ab))) h)
+    (route_rests (f a b) (f b a) id out (paired.stand.apart a b ab).full (h a b ab)) (rests_back (f b a) (f a b) (routed (f a b) id) (λ l g. g) (λ n c. c) (h b a (eq_other a b ab))) h)
 
 -- a pair that is set twice
 set_twice : (f : ℕ → ℕ → Pair) (a b : ℕ) (p q : Pair) → (a == b) ≡ false → Two f (at_pair (at_pair f a b p) a b q) a b q (f b a)
@@ -88,7 +85,7 @@ out_rest f a b id ab out h =
     let is : repeated (Load.Data (length (f a b).ids)) (first a b) ≡ routed_out (f a b) id = ap (repeated (Load.Data (length (f a b).ids))) (set_same f a b (routed_on a b (f a b) id) ∙ out_is a b (f a b) id ab) in
     subst (λ (p : Pair). Rest (at_pair first a b p)) (sym is)
     (rest_two f (at_pair first a b (routed_out (f a b) id)) a b (routed_out (f a b) id) (f b a) (set_twice f a b (routed_on a b (f a b) id) (routed_out (f a b) id) ab)
-    (out_rests (f a b) (f b a) id out (h a b ab)) (repeat_back (Load.Data (length (f a b).ids)) (routed (f a b) id) (f b a) (rests_back (f b a) (f a b) (routed (f a b) id) (λ l g. g) (λ n c. c) (h b a (flip a b ab)))) h)
+    (out_rests (f a b) (f b a) id out (h a b ab)) (repeat_back (Load.Data (length (f a b).ids)) (routed (f a b) id) (f b a) (rests_back (f b a) (f a b) (routed (f a b) id) (λ l g. g) (λ n c. c) (h b a (eq_other a b ab)))) h)
 
 puts_rest : (pt next : Point) (b : ℕ) (id : MsgId) (k : MessageKind) (q : Pid) (home out : Bool) → (pt.view.acting == b) ≡ home → goes_out (pt.view.pair pt.view.acting b) ≡ out
     → after pt (Line.Put pt.view.acting b id k q ∷ (if home then [] else if out then packet_line pt.view pt.view.acting b (Load.Data (length (pt.view.pair pt.view.acting b).ids)) ∷ [] else [])) ≡ Some next
