@@ -91,7 +91,6 @@ tells_one f p before said m k n so_far parts lt on one routed h =
             made = one.made ∙ h.state.made;
             sent = refl;
             room = one.room ∙ h.state.room;
-            servers = one.servers ∙ h.state.servers;
             over = one.over ∙ h.state.over;
           };
       count = omega arith;
@@ -125,7 +124,6 @@ has_told f p before said m k so_far le h =
             made = h.state.made;
             sent = is ∙ ap (λ (ms : List ℕ). before.sent + length ms) first;
             room = h.state.room;
-            servers = h.state.servers;
             over = h.state.over;
           };
       parts_are =

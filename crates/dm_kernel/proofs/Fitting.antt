@@ -1,12 +1,13 @@
 -- What a server takes fits it.
-use Rattle.dm_kernel.proofs.Names.{◌≡◌, ℕ, ◌<◌, length, What, kind_of, IsForManager, Servers, FitsBoardWhat, FitsManagerWhat, most}
+use Rattle.dm_kernel.proofs.Names.{◌≡◌, ℕ, ◌<◌, length, What, kind_of, IsForManager, Board, Managing, KernelState, FitsBoard, FitsManager, most}
 use Rattle.dm_message.specs.declared.What.TheVariants as what
 use Rattle.dm_message.specs.declared.kind.MessageKind.TheVariants as kind
 
-pub user_fits : (v : Servers) (w : What) → kind_of w ≡ kind.User → v.board.sent < most → FitsBoardWhat v w
-user_fits v (what.User code channel body links) e few = few
-user_fits v w e few = absurd (cc)
+pub user_fits : (s : KernelState) (v : Board) (w : What) → kind_of w ≡ kind.User → v.sent < most → FitsBoard s v w
+user_fits s v (what.User code channel body links) e few = few
+user_fits s v w e few = absurd (cc)
 
-pub managed_fits : (v : Servers) (n : ℕ) (w : What) → IsForManager v.manager n w → v.manager.sent < most → length v.manager.children < most → FitsManagerWhat v n w
-managed_fits v n (what.Update about) h sent children = absurd h
-managed_fits v n w h sent children = (h, sent, children)
+pub managed_fits : (s : KernelState) (v : Managing) (n : ℕ) (w : What) → IsForManager v n w → v.sent < most → length v.children < most → FitsManager s v n w
+managed_fits s v n (what.Update about) h sent children = absurd h
+managed_fits s v n (what.Migrate machine) h sent children = absurd h
+managed_fits s v n w h sent children = (h, sent, children)

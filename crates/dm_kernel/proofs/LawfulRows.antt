@@ -1,8 +1,10 @@
 -- What the rows of a turn give is lawful.
-use Rattle.dm_kernel.proofs.Names.{◌≡◌, ℕ, ◌-◌, ◌*◌, ◌<◌, ◌≤◌, Bool, true, false, if◌then◌else◌, List, [], ◌∷◌, ◌++◌, length, map, replicate, Some, None, refl, sym, subst, inl, inr, ◌⊎◌, arith, All, IfSome, common_steps, All-append}
+use Rattle.dm_kernel.proofs.Names.{◌≡◌, ℕ, ◌-◌, ◌*◌, ◌<◌, ◌≤◌, Bool, true, false, ◌==◌, if◌then◌else◌, List, [], ◌∷◌, ◌++◌, length, map, replicate, Some, None, refl, sym, subst, inl, inr, ◌⊎◌, arith, All, IfSome, common_steps, All-append}
 use Rattle.dm_kernel.proofs.Names.{All-cons, All-map, All-nil, All-push, nat_tests, Option, Link, Pid, IsMachine, IsLawfulEnclosed, pid_eq, Message, What, kind_of, IsLawfulMessage, IsLawfulWhat, is_answer, Process, IsLawfulProcess}
 use Rattle.dm_kernel.proofs.Names.{SlotIsLawful, Here, with_record, Taken, answer, none_lawful, Boot, BootImage, Format, One, Two, Why, image_is_valid, slots_of, memory_of, slots_with, Line, Part, Says, Routes, child_of, with_child, routes}
-use Rattle.dm_kernel.proofs.Names.{AreLawful, IsLawfulKnown, IsLawfulPart, IsLawfulRoom, IsLawfulState, IsLawfulTurned, KernelState, KernelKnown, Turned, drops, with_here, without_process, forgets}
+use Rattle.dm_kernel.proofs.Names.{AreLawful, IsLawfulKnown, IsLawfulPart, IsLawfulRoom, IsLawfulState, IsLawfulTurned, KernelState, KernelKnown, Turned, drops, with_here, without_process, forgets, Resident}
+use Rattle.dm_kernel.proofs.Names.{IsLawfulResident, name_of, room_with, room_without}
+use Rattle.dm_resident.specs.declared.Resident.TheVariants as resident
 
 -- what there is of a turn is lawful
 abbrev pub Lawfully : Option Turned → Type 0
@@ -28,6 +30,10 @@ pub routes_lawfully : (o : Option Message) → IfSome o IsLawfulMessage → AreL
 routes_lawfully None h = none_said
 routes_lawfully (Some m) h = routed m h
 
+pub all_said : (ls : List Line) (parts : List Part) → AreLawful parts → AreLawful (map Says ls ++ parts)
+all_said [] parts h = h
+all_said (l ∷ ls) parts h = said (all_said ls parts h)
+
 pub all_dropped : (ms : List Message) → AreLawful (drops ms)
 all_dropped [] = none_said
 all_dropped (m ∷ ms) = said (all_dropped ms)
@@ -48,8 +54,25 @@ of_known s p o h e = subst (λ (o : Option KernelKnown). IfSome o IsLawfulKnown)
 pub same_room : (r : Taken) (slots blocks : ℕ) → IsLawfulRoom r → IsLawfulRoom (record r { taken_slots = slots; taken_blocks = blocks })
 same_room r slots blocks h = record { slots = h.slots; blocks = h.blocks }
 
+-- what moves takes room, or gives it back
+room_or : (none : Bool) (r t : Taken) → IsLawfulRoom r → IsLawfulRoom t → IsLawfulRoom (if none then r else t)
+room_or true r t h k = h
+room_or false r t h k = k
+
+pub with_more : (r : Taken) (blocks : ℕ) → IsLawfulRoom r → IsLawfulRoom (room_with r blocks)
+with_more r blocks h = room_or (blocks == 0) r _ h (same_room r _ _ h)
+
+pub with_less : (r : Taken) (blocks : ℕ) → IsLawfulRoom r → IsLawfulRoom (room_without r blocks)
+with_less r blocks h = room_or (blocks == 0) r _ h (same_room r _ _ h)
+
+-- the home of a lawful process, and that of a server
+pub home_lawful : (r : Resident) → IsLawfulResident r → IsMachine (name_of r).home
+home_lawful (resident.Process x) h = h.home
+home_lawful (resident.Board v) h = omega arith
+home_lawful (resident.Manager v) h = omega arith
+
 pub with_process : (s : KernelState) (p : Pid) (x : Process) → IsLawfulState s → IsLawfulProcess x → IsLawfulState (with_here s p x)
-with_process s p x h lawful = record { records = knows s p (Here x) h lawful; room = h.room; inbox = h.inbox; servers = h.servers }
+with_process s p x h lawful = record { records = knows s p (Here (resident.Process x)) h lawful; room = h.room; inbox = h.inbox }
 
 -- a process is forgotten
 none_or : (same : Bool) (o : Option KernelKnown) → IfSome o IsLawfulKnown → IfSome (if same then None else o) IsLawfulKnown
@@ -57,14 +80,14 @@ none_or true o h = tt
 none_or false o h = h
 
 pub forgotten : (s : KernelState) (p : Pid) → IsLawfulState s → IsLawfulState (forgets s p)
-forgotten s p h = record { records = λ q. none_or (pid_eq p q) (s.records q) (h.records q); room = h.room; inbox = h.inbox; servers = h.servers }
+forgotten s p h = record { records = λ q. none_or (pid_eq p q) (s.records q) (h.records q); room = h.room; inbox = h.inbox }
 
 pub without : (s : KernelState) (p : Pid) (x : Process) (w : Why) → IsLawfulState s → IsLawfulState (without_process s p x w)
-without s p x w h = record { records = (forgotten s p h).records; room = same_room s.room _ _ h.room; inbox = h.inbox; servers = h.servers }
+without s p x w h = record { records = (forgotten s p h).records; room = same_room s.room _ _ h.room; inbox = h.inbox }
 
 pub with_one_more : (s : KernelState) (p : Pid) (x : Process) (blocks : ℕ) → IsLawfulState s → IsLawfulProcess x → IsLawfulState (with_child s p x blocks)
 with_one_more s p x blocks h lawful =
-    record { records = knows s p (Here x) h lawful; room = same_room s.room _ _ h.room; inbox = h.inbox; servers = h.servers }
+    record { records = knows s p (Here (resident.Process x)) h lawful; room = same_room s.room _ _ h.room; inbox = h.inbox }
 
 pub with_queued : (x : Process) (m : Message) → IsLawfulProcess x → IsLawfulMessage m → IsLawfulProcess (record x { queue = x.queue ++ m ∷ [] })
 with_queued x m h k =

@@ -1,14 +1,16 @@
 -- What a turn gives is lawful.
 use Rattle.dm_kernel.proofs.Names.{◌≡◌, ◌∙◌, ℕ, suc, ◌<◌, ◌≤◌, Bool, true, false, ◌==◌, if◌then◌else◌, List, [], ◌∷◌, length, map, remove, slice_get, Some, None, refl, sym, subst, ap, arith, All, IfSome, common_steps, All-tail, Option, Ok}
-use Rattle.dm_kernel.proofs.Names.{Addr, Link, Pid, IsLawfulEnclosed, IsMachine, pid_eq, plain_link, Message, What, IsLawfulMessage, IsLawfulWhat, IsServer, Process, Status, IsLawfulProcess, first_on, is_on, without_first_on, Here, Frozen}
+use Rattle.dm_kernel.proofs.Names.{Addr, Link, Pid, IsLawfulEnclosed, IsMachine, plain_link, Message, What, IsLawfulMessage, IsLawfulWhat, IsServer, Process, Status, IsLawfulProcess, first_on, is_on, without_first_on, Here, Frozen}
 use Rattle.dm_kernel.proofs.Names.{Incoming, Forward, frozen_of, incoming_of, Arrival, Departure, HasChunk, block_of, chunk_of, bind, Landed, Landing, IsAwaited, IsLawfulLanded, landing, IsWithin, after_serving, gone_answer, serving_answer}
-use Rattle.dm_kernel.proofs.Names.{IsLawfulLanding, lands_lawfully, answers_lawfully, serves_lawfully, Boot, BootImage, Reply, Why, image_is_valid, images_are_valid, manager, slots_of, switchboard, plain_process, receive_refusals}
+use Rattle.dm_kernel.proofs.Names.{IsLawfulLanding, lands_lawfully, answers_lawfully, serves_lawfully, Boot, BootImage, Reply, Why, image_is_valid, images_are_valid, slots_of, plain_process, receive_refusals}
 use Rattle.dm_kernel.proofs.Names.{first_failed, heard, manager_after, message_after, moved_back, answer_after, board_after, Called, calls, Completion, completes, completes_unless, completion, refusal, IsLawfulCalled, completes_lawfully}
-use Rattle.dm_kernel.proofs.Names.{IsLawfulDone, call_lawfully, Servers, Halt, asks_move, child_of, restarts, gives_piece, leaves, stays, answers_with, board_handles, board_took, ended_handles, handles, here_handles, kernel_handles, lands}
-use Rattle.dm_kernel.proofs.Names.{lands_as, makes, makes_of, manager_handles, manager_took, next_pid, process_handles, told_board, told_manager, IsLawfulArrival, IsLawfulDeparture, IsLawfulKnown, IsLawfulPair, IsLawfulState}
-use Rattle.dm_kernel.proofs.Names.{IsLawfulTurned, FitsEnded, FitsHere, FitsKernel, FrontMay, FitsKnown, FitsUnknown, FitsManager, FitsManagerWhat, IsSuch, MayHandle, MayRestart, MayTurn, called_with, ends, halts, processor_of, ran}
-use Rattle.dm_kernel.proofs.Names.{received_by, receives, serves, serves_status, with_machine, KernelState, KernelKnown, Turned, with_here, first_runnable, goes_round, turn, turns, answer, gone_what, state_of, calls_off, preceded}
-use Rattle.dm_kernel.proofs.Names.{unknown_handles, before_turn, ◌||◌}
+use Rattle.dm_kernel.proofs.Names.{IsLawfulDone, call_lawfully, Halt, asks_move, child_of, restarts, gives_piece, leaves, stays, answers_with, board_handles, board_took, ended_handles, handles, here_handles, kernel_handles, lands}
+use Rattle.dm_kernel.proofs.Names.{lands_as, makes, makes_of, manager_handles, manager_took, next_pid, process_handles, told_board, told_manager, IsLawfulArrival, IsLawfulDeparture, IsLawfulKnown, IsLawfulState}
+use Rattle.dm_kernel.proofs.Names.{IsLawfulTurned, FitsEnded, FitsHere, FitsKernel, FrontMay, FitsKnown, FitsBoard, FitsManager, FitsResident, IsSuch, MayHandle, MayRestart, MayTurn, called_with, ends, halts, processor_of, ran}
+use Rattle.dm_kernel.proofs.Names.{received_by, receives, serves, serves_status, with_machine, KernelState, KernelKnown, Turned, with_here, with_known, MayFreeze, first_runnable, goes_round, turn, turns, answer, gone_what, state_of, calls_off, preceded}
+use Rattle.dm_kernel.proofs.Names.{before_turn, resident_handles, Board, IsLawfulBoard, IsLawfulManager, IsLawfulResident, IsNamed, Managing, Resident, name_of, MayAct}
+use Rattle.dm_resident.specs.declared.Resident.TheVariants as resident
+use Rattle.dm_resident.specs.Residents as residents
 use Rattle.dm_message.specs.declared.What.TheVariants as what
 use Rattle.dm_message.specs.declared.Outcome.TheVariants as ends
 use Rattle.dm_process.specs.declared.process.Status.TheVariants as status
@@ -25,7 +27,7 @@ use Rattle.dm_kernel.proofs.Serving.{first_is_on, has_run, runs_lawfully}
 use Rattle.dm_kernel.proofs.LawfulMoves.{asked_lawfully, asks_lawfully, asks_move_lawfully, board_follows_lawfully, chunk_lawfully, forwards_lawfully, gives_lawfully}
 use Rattle.dm_kernel.proofs.LawfulMoves.{holds_arriving_lawfully, holds_leaving_lawfully, leaves_lawfully, manager_follows_lawfully, migrates_lawfully, process_follows_lawfully, restarts_lawfully, stays_lawfully, arriving_known}
 use Rattle.dm_kernel.proofs.LawfulMoves.{after_lawfully, buries_lawfully, called_off_lawfully, hears_lawfully, over_lawfully, preceded_lawful}
-use Rattle.dm_kernel.proofs.LawfulRows.{Lawfully, answer_lawfully, child_lawfully, enough, if_lawfully, none_said, of_known, routed, routes_lawfully, said, with_one_more, with_process, with_queued, with_stopped}
+use Rattle.dm_kernel.proofs.LawfulRows.{Lawfully, answer_lawfully, child_lawfully, enough, home_lawful, if_lawfully, knows, none_said, of_known, routed, routes_lawfully, said, with_one_more, with_process, with_queued, with_stopped}
 
 -- a process that executes
 ends_lawfully : (s : KernelState) (p : Pid) (k : ℕ) (x : Process) (y : Why) → s.here < 16 → IsMachine p.home → IsLawfulState s → Lawfully (ends s p k x y)
@@ -112,15 +114,22 @@ status_lawfully quantum s p x status.Ready machine home h lawful is =
 status_lawfully quantum s p x (status.Waiting mask base size) machine home h lawful is = receives_lawfully s p x mask base size (first_on mask x.queue) h lawful is refl
 status_lawfully quantum s p x (status.Moving dir owner base own left pending) machine home h lawful is = tt
 
--- each process that is here bears its name
+-- a process that is here bears its name, which is no server's
+record IsNamedAs (p : Pid) (x : Process) : Type 0 where
+  pid : x.pid ≡ p
+  none : ¬ IsServer p
+
 abbrev AreNamed : KernelState → Type 0
-AreNamed s = (p : Pid) (x : Process) → s.records p ≡ Some (Here x) → x.pid ≡ p
+AreNamed s = (p : Pid) (x : Process) → s.records p ≡ Some (Here (resident.Process x)) → IsNamedAs p x
 
 serves_known : (quantum : ℕ) (s : KernelState) (p : Pid) (o : Option KernelKnown) → s.here < 16 → IsLawfulState s → AreNamed s → s.records p ≡ o → Lawfully (serves quantum s p o)
 serves_known quantum s p None machine h named e = tt
-serves_known quantum s p (Some (Here x)) machine h named e =
-    let lawful : IsLawfulProcess x = of_known s p (Some (Here x)) h e in
-    status_lawfully quantum s p x x.status machine (subst (λ (q : Pid). IsMachine q.home) (named p x e) lawful.home) h lawful refl
+serves_known quantum s p (Some (Here (resident.Process x))) machine h named e =
+    let lawful : IsLawfulProcess x = of_known s p (Some (Here (resident.Process x))) h e in
+    let bears : IsNamedAs p x = named p x e in
+    status_lawfully quantum s p x x.status machine (subst (λ (q : Pid). IsMachine q.home) bears.pid lawful.home) h lawful refl
+serves_known quantum s p (Some (Here (resident.Board v))) machine h named e = tt
+serves_known quantum s p (Some (Here (resident.Manager v))) machine h named e = tt
 serves_known quantum s p (Some (Frozen leaving)) machine h named e = tt
 serves_known quantum s p (Some (Incoming arriving)) machine h named e = tt
 serves_known quantum s p (Some (Forward place moves)) machine h named e = tt
@@ -161,7 +170,7 @@ here_lawfully s m x (what.Write base bytes) machine h message what lawful none f
 here_lawfully s m x (what.Block bytes) machine h message what lawful none fits = lands_here s m x (landing s.here x m.what x.status) machine h lawful fits refl
 here_lawfully s m x what.Written machine h message what lawful none fits = lands_here s m x (landing s.here x m.what x.status) machine h lawful fits refl
 here_lawfully s m x what.Gone machine h message what lawful none fits = lands_here s m x (landing s.here x m.what x.status) machine h lawful fits refl
-here_lawfully s m x (what.Migrate to) machine h message what lawful none fits = migrates_lawfully s m x to machine h lawful none what
+here_lawfully s m x (what.Migrate to) machine h message what lawful none fits = migrates_lawfully s m (resident.Process x) to machine h lawful none what
 here_lawfully s m x (what.Move to) machine h message what lawful none fits = asked_lawfully s m x to machine h message lawful none what
 here_lawfully s m x (what.Update about) machine h message what lawful none fits = process_follows_lawfully s m x about h lawful what
 here_lawfully s m x w machine h message what lawful none fits = absurd fits
@@ -232,22 +241,22 @@ kernel_lawfully b s m (what.Create image links) machine images h message lawful 
 kernel_lawfully b s m (what.Ask pid blocks moves size asker) machine images h message lawful fits = asks_lawfully b s m pid blocks moves size asker machine h message lawful.0 lawful.2
 kernel_lawfully b s m (what.Refuse pid slots blocks) machine images h message lawful fits = each_leaving (s.records pid) (stays s pid) (h.records pid) (λ d e leaving. stays_lawfully s pid d machine h leaving)
 kernel_lawfully b s m (what.PullState pid chunk) machine images h message lawful fits =
-    each_leaving (s.records pid) (λ d. gives_piece s m (chunk_of d.process.pid (state_of d.process) chunk)) (h.records pid)
+    each_leaving (s.records pid) (λ d. gives_piece s m (chunk_of (name_of d.resident) (state_of d.resident) chunk)) (h.records pid)
     (λ d e leaving.
-    gives_lawfully s m (chunk_of d.process.pid (state_of d.process) chunk) machine h message refl
-    (chunk_lawfully d.process chunk leaving.process.home (such (λ (d : Departure). HasChunk (state_of d.process) chunk) (frozen_of (s.records pid)) d e fits.0)))
+    gives_lawfully s m (chunk_of (name_of d.resident) (state_of d.resident) chunk) machine h message refl
+    (chunk_lawfully d.resident chunk (home_lawful d.resident leaving.resident) (such (λ (d : Departure). HasChunk (state_of d.resident) chunk) (frozen_of (s.records pid)) d e fits.0)))
 kernel_lawfully b s m (what.State pid chunk last bytes) machine images h message lawful fits =
     hears_lawfully s m pid (incoming_of (s.records pid)) machine h message (arriving_known (s.records pid) (h.records pid))
 kernel_lawfully b s m (what.PullBlock pid block) machine images h message lawful fits =
-    each_leaving (s.records pid) (λ d. gives_piece s m (block_of d.process.pid d.process.memory block)) (h.records pid)
-    (λ d e leaving. gives_lawfully s m (block_of d.process.pid d.process.memory block) machine h message refl leaving.process.home)
+    each_leaving (s.records pid) (λ d. gives_piece s m (block_of (name_of d.resident) (residents.memory_of d.resident) block)) (h.records pid)
+    (λ d e leaving. gives_lawfully s m (block_of (name_of d.resident) (residents.memory_of d.resident) block) machine h message refl (home_lawful d.resident leaving.resident))
 kernel_lawfully b s m (what.Memory pid block bytes) machine images h message lawful fits =
     hears_lawfully s m pid (incoming_of (s.records pid)) machine h message (arriving_known (s.records pid) (h.records pid))
 kernel_lawfully b s m (what.AllTaken pid) machine images h message lawful fits =
     each_leaving (s.records pid) (leaves s pid) (h.records pid) (λ d e leaving. leaves_lawfully s pid d machine lawful h leaving)
 kernel_lawfully b s m (what.Restart pid) machine images h message lawful fits =
-    each_arriving (s.records pid) (restarts s pid) (h.records pid)
-    (λ a e arriving. restarts_lawfully s pid a machine h arriving (such MayRestart (incoming_of (s.records pid)) a e fits))
+    each_arriving (s.records pid) (restarts b s pid) (h.records pid)
+    (λ a e arriving. restarts_lawfully b s pid a machine h arriving (such (MayRestart b) (incoming_of (s.records pid)) a e fits))
 kernel_lawfully b s m (what.CallOff pid) machine images h message lawful fits =
     let t = preceded s pid m.id.from.home in
     each_leaving (s.records pid) (stays t pid) (h.records pid) (λ d e leaving. stays_lawfully t pid d machine (preceded_lawful s pid m.id.from.home h) leaving)
@@ -255,119 +264,122 @@ kernel_lawfully b s m (what.Bury pid) machine images h message lawful fits = bur
 kernel_lawfully b s m w machine images h message lawful fits = absurd fits
 
 -- a message for a server
-board_what : (s : KernelState) (m : Message) (v : Servers) (w : What) → s.here < 16 → IsLawfulState s → IsLawfulPair v → IsLawfulMessage m → IsLawfulWhat w → m.what ≡ w → Lawfully (board_took s m v (board.takes s.here v.board w))
-board_what s m v (what.User code channel body links) machine h pair message lawful is =
-    let t = board.takes_request s.here v.board body.items links.items in
+with_board : (s : KernelState) (m : Message) (v : Board) → IsLawfulState s → IsLawfulBoard v → IsLawfulState (with_known s m.to.pid (Here (resident.Board v)))
+with_board s m v h lawful = record { records = knows s m.to.pid (Here (resident.Board v)) h lawful; room = h.room; inbox = h.inbox }
+
+with_manager : (s : KernelState) (m : Message) (v : Managing) → IsLawfulState s → IsLawfulManager v → IsLawfulState (with_known s m.to.pid (Here (resident.Manager v)))
+with_manager s m v h lawful = record { records = knows s m.to.pid (Here (resident.Manager v)) h lawful; room = h.room; inbox = h.inbox }
+
+board_what : (s : KernelState) (m : Message) (v : Board) (w : What) → s.here < 16 → IsLawfulState s → IsLawfulBoard v → IsLawfulMessage m → IsLawfulWhat w → m.what ≡ w → Lawfully (board_took s m v (board.takes s.here v w))
+board_what s m v (what.User code channel body links) machine h own message lawful is =
+    let t = board.takes_request s.here v body.items links.items in
     record {
-      state =
-          record {
-            records = h.records;
-            room = h.room;
-            inbox = h.inbox;
-            servers =
-                record {
-                  board = board_after s.here (Ok t.took) v.board t.board m code channel body links body.items links.items machine is refl refl tt pair.board message;
-                  manager = pair.manager;
-                };
-          };
-      parts = said (routes_lawfully t.took.answer (answer_after s.here (Ok t.took) v.board t.board m code channel body links body.items links.items machine is refl refl pair.board message));
+      state = with_board s m t.board h (board_after s.here (Ok t.took) v t.board m code channel body links body.items links.items machine is refl refl tt own message);
+      parts = said (routes_lawfully t.took.answer (answer_after s.here (Ok t.took) v t.board m code channel body links body.items links.items machine is refl refl own message));
     }
-board_what s m v (what.Update about) machine h pair message lawful is = subst (λ (w : What). Lawfully (told_board s m v w)) (sym is) (board_follows_lawfully s m v about h pair lawful)
-board_what s m v w machine h pair message lawful is = subst (λ (w : What). Lawfully (told_board s m v w)) (sym is) tt
+board_what s m v (what.Update about) machine h own message lawful is = subst (λ (w : What). Lawfully (told_board s m v w)) (sym is) (board_follows_lawfully s m v about h own lawful)
+board_what s m v (what.Migrate to) machine h own message lawful is =
+    subst (λ (w : What). Lawfully (told_board s m v w)) (sym is) (migrates_lawfully s m (resident.Board v) to machine h own tt lawful)
+board_what s m v w machine h own message lawful is = subst (λ (w : What). Lawfully (told_board s m v w)) (sym is) tt
 
-board_lawfully : (s : KernelState) (m : Message) (o : Option Servers) → s.here < 16 → IsLawfulState s → IfSome o IsLawfulPair → IsLawfulMessage m → Lawfully (board_handles s m o)
-board_lawfully s m None machine h pair message = tt
-board_lawfully s m (Some v) machine h pair message = board_what s m v m.what machine h pair message message.what refl
-
-not_told : (s : KernelState) (m : Message) (v : Servers) (w : What) → ((about : Addr) → w ≡ what.Update about → ⊥) → Lawfully (told_manager s m v w)
-not_told s m v (what.Update about) h = absurd (h about refl)
+-- what is for the manager is no update, and doesn't tell it to move
+not_told : (s : KernelState) (m : Message) (v : Managing) (w : What) → manage.IsForManager v m.id.n w → Lawfully (told_manager s m v w)
+not_told s m v (what.Update about) h = absurd h
+not_told s m v (what.Migrate to) h = absurd h
 not_told s m v w h = tt
 
-manager_what : (s : KernelState) (m : Message) (v : Servers) (o : Option manage.Taken) → s.here < 16 → IsLawfulState s → IsLawfulPair v → IsLawfulMessage m → manage.IsForManager v.manager m.id.n m.what
-    → manage.takes s.here v.manager m.id.n m.what ≡ o → Lawfully (manager_took s m v o)
-manager_what s m v None machine h pair message fits e = (not_told s m v m.what (λ about is. absurd (subst (manage.IsForManager v.manager m.id.n) is fits)))
-manager_what s m v (Some t) machine h pair message fits e =
+manager_what : (s : KernelState) (m : Message) (v : Managing) (o : Option manage.Taken) → s.here < 16 → IsLawfulState s → IsLawfulManager v → IsLawfulMessage m → manage.IsForManager v m.id.n m.what
+    → manage.takes s.here v m.id.n m.what ≡ o → Lawfully (manager_took s m v o)
+manager_what s m v None machine h own message fits e = not_told s m v m.what fits
+manager_what s m v (Some t) machine h own message fits e =
     record {
-      state =
-          record {
-            records = h.records;
-            room = h.room;
-            inbox = h.inbox;
-            servers =
-                record {
-                  board = pair.board;
-                  manager = manager_after s.here machine (Ok t.message) v.manager t.manager m (heard v.manager m.id.n m.what fits) e tt pair.manager message;
-                };
-          };
-      parts = said (routes_lawfully t.message (message_after s.here machine (Ok t.message) v.manager t.manager m (heard v.manager m.id.n m.what fits) e pair.manager message));
+      state = with_manager s m t.manager h (manager_after s.here machine (Ok t.message) v t.manager m (heard v m.id.n m.what fits) e tt own message);
+      parts = said (routes_lawfully t.message (message_after s.here machine (Ok t.message) v t.manager m (heard v m.id.n m.what fits) e own message));
     }
 
-manager_told_lawfully : (s : KernelState) (m : Message) (v : Servers) (w : What) → s.here < 16 → IsLawfulState s → IsLawfulPair v → IsLawfulMessage m → IsLawfulWhat w → FitsManagerWhat v m.id.n w → m.what ≡ w
-    → Lawfully (manager_took s m v (manage.takes s.here v.manager m.id.n w))
-manager_told_lawfully s m v (what.Update about) machine h pair message lawful fits is =
-    subst (λ (w : What). Lawfully (told_manager s m v w)) (sym is) (manager_follows_lawfully s m v about h pair lawful)
-manager_told_lawfully s m v w machine h pair message lawful fits is =
-    manager_what s m v (manage.takes s.here v.manager m.id.n w) machine h pair message (subst (manage.IsForManager v.manager m.id.n) (sym is) fits.0) (ap (manage.takes s.here v.manager m.id.n) is)
+manager_told_lawfully : (s : KernelState) (m : Message) (v : Managing) (w : What) → s.here < 16 → IsLawfulState s → IsLawfulManager v → IsLawfulMessage m → IsLawfulWhat w → FitsManager s v m.id.n w → m.what ≡ w
+    → Lawfully (manager_took s m v (manage.takes s.here v m.id.n w))
+manager_told_lawfully s m v (what.Update about) machine h own message lawful fits is =
+    subst (λ (w : What). Lawfully (told_manager s m v w)) (sym is) (manager_follows_lawfully s m v about h own lawful)
+manager_told_lawfully s m v (what.Migrate to) machine h own message lawful fits is =
+    subst (λ (w : What). Lawfully (told_manager s m v w)) (sym is) (migrates_lawfully s m (resident.Manager v) to machine h own tt lawful)
+manager_told_lawfully s m v w machine h own message lawful fits is =
+    manager_what s m v (manage.takes s.here v m.id.n w) machine h own message (subst (manage.IsForManager v m.id.n) (sym is) fits.0) (ap (manage.takes s.here v m.id.n) is)
 
-manager_lawfully : (s : KernelState) (m : Message) (o : Option Servers) → s.here < 16 → IsLawfulState s → IfSome o IsLawfulPair → IsLawfulMessage m → FitsManager m o → Lawfully (manager_handles s m o)
-manager_lawfully s m None machine h pair message fits = tt
-manager_lawfully s m (Some v) machine h pair message fits = manager_told_lawfully s m v m.what machine h pair message message.what fits refl
+-- a message for what is here
+resident_lawfully : (s : KernelState) (m : Message) (r : Resident) → s.here < 16 → IsLawfulState s → IsLawfulResident r → IsNamed r → IsLawfulMessage m → FitsResident s m r → Lawfully (resident_handles s m r)
+resident_lawfully s m (resident.Process x) machine h lawful none message fits = here_lawfully s m x m.what machine h message message.what lawful none fits
+resident_lawfully s m (resident.Board v) machine h lawful none message fits = board_what s m v m.what machine h lawful message message.what refl
+resident_lawfully s m (resident.Manager v) machine h lawful none message fits = manager_told_lawfully s m v m.what machine h lawful message message.what fits refl
 
-server_lawfully : (s : KernelState) (m : Message) → s.here < 16 → IsLawfulState s → IsLawfulMessage m → FitsUnknown s m → Lawfully (unknown_handles s m)
-server_lawfully s m machine h message fits =
-    if_lawfully (pid_eq m.to.pid switchboard) (board_handles s m s.servers) (if pid_eq m.to.pid manager then manager_handles s m s.servers else ended_handles s m m.what)
-    (λ is. board_lawfully s m s.servers machine h h.servers message)
-    (λ off. if_lawfully (pid_eq m.to.pid manager) (manager_handles s m s.servers) (ended_handles s m m.what) (λ is. manager_lawfully s m s.servers machine h h.servers message (fits.manager is))
-    (λ none. ended_lawfully s m m.what machine h message (fits.ended (ap (λ (c : Bool). c || pid_eq m.to.pid manager) off ∙ none))))
-
-known_lawfully : (s : KernelState) (m : Message) (o : Option KernelKnown) → s.here < 16 → IsLawfulState s → IsLawfulMessage m → ((x : Process) → o ≡ Some (Here x) → ¬ IsServer x.pid) → FitsKnown s m o
+known_lawfully : (s : KernelState) (m : Message) (o : Option KernelKnown) → s.here < 16 → IsLawfulState s → IsLawfulMessage m → ((r : Resident) → o ≡ Some (Here r) → IsNamed r) → FitsKnown s m o
     → s.records m.to.pid ≡ o → Lawfully (process_handles s m o)
-known_lawfully s m None machine h message none fits e = server_lawfully s m machine h message fits
-known_lawfully s m (Some (Here x)) machine h message none fits e = here_lawfully s m x m.what machine h message message.what (of_known s m.to.pid (Some (Here x)) h e) (none x refl) fits
+known_lawfully s m None machine h message none fits e = ended_lawfully s m m.what machine h message fits
+known_lawfully s m (Some (Here r)) machine h message none fits e = resident_lawfully s m r machine h (of_known s m.to.pid (Some (Here r)) h e) (none r refl) message fits
 known_lawfully s m (Some (Frozen d)) machine h message none fits e = holds_leaving_lawfully s m d h (of_known s m.to.pid (Some (Frozen d)) h e) message
 known_lawfully s m (Some (Incoming a)) machine h message none fits e = holds_arriving_lawfully s m a h (of_known s m.to.pid (Some (Incoming a)) h e) message
 known_lawfully s m (Some (Forward place moves)) machine h message none fits e = forwards_lawfully s m place moves machine (of_known s m.to.pid (Some (Forward place moves)) h e) h message
 
-no_server_here : (s : KernelState) (p : Pid) → AreNamed s → (IsServer p → s.records p ≡ None) → (x : Process) → s.records p ≡ Some (Here x) → ¬ IsServer x.pid
-no_server_here s p named none x e server = let f : None ≡ Some (Here x) = sym (none (subst IsServer (named p x e) server)) ∙ e in cc
+no_server_here : (s : KernelState) (p : Pid) → AreNamed s → (r : Resident) → s.records p ≡ Some (Here r) → IsNamed r
+no_server_here s p named (resident.Process x) e = let bears : IsNamedAs p x = named p x e in λ server. bears.none (subst IsServer bears.pid server)
+no_server_here s p named (resident.Board v) e = tt
+no_server_here s p named (resident.Manager v) e = tt
 
 -- a message
 handles_lawfully : (b : Boot) (s : KernelState) (m : Message) → s.here < 16 → images_are_valid b.images ≡ true → IsLawfulState s → AreNamed s → MayHandle b s m → Lawfully (handles b s m)
 handles_lawfully b s m machine images h named may =
     if_lawfully (m.to.pid.num == 0) (kernel_handles b s m m.what) (process_handles s m (s.records m.to.pid))
     (λ is. kernel_lawfully b s m m.what machine images h may.lawful may.lawful.what (may.for_kernel is))
-    (λ no. known_lawfully s m (s.records m.to.pid) machine h may.lawful (no_server_here s m.to.pid named may.for_server) (may.for_process no) refl)
+    (λ no. known_lawfully s m (s.records m.to.pid) machine h may.lawful (no_server_here s m.to.pid named) (may.for_process no) refl)
 
 -- before the turn, without the message that is taken, and with the ring turned
 pub before_lawful : (s : KernelState) → IsLawfulState s → IsLawfulState (before_turn s)
-before_lawful s h = record { records = h.records; room = h.room; inbox = h.inbox; servers = h.servers }
+before_lawful s h = record { records = h.records; room = h.room; inbox = h.inbox }
 
 without_front : (s : KernelState) (m : Message) (rest : List Message) → s.inbox ≡ m ∷ rest → IsLawfulState s → IsLawfulState (record s { inbox = rest })
 without_front s m rest e h =
-    record { records = h.records; room = h.room; inbox = All-tail IsLawfulMessage m rest (subst (All IsLawfulMessage) e h.inbox); servers = h.servers }
+    record { records = h.records; room = h.room; inbox = All-tail IsLawfulMessage m rest (subst (All IsLawfulMessage) e h.inbox) }
 
 with_ring : (s : KernelState) (ring : List Pid) → IsLawfulState s → IsLawfulState (record s { ring = ring })
-with_ring s ring h = record { records = h.records; room = h.room; inbox = h.inbox; servers = h.servers }
+with_ring s ring h = record { records = h.records; room = h.room; inbox = h.inbox }
 
 fits_still : (b : Boot) (s : KernelState) (m : Message) (rest : List Message) (w : What) → FitsKernel b s m w → FitsKernel b (record (before_turn s) { inbox = rest }) m w
 fits_still b s m rest (what.Create image links) h = h
 fits_still b s m rest w h = h
 
+here_still : (s : KernelState) (m : Message) (x : Process) (rest : List Message) (w : What) → FitsHere s m x w → FitsHere (record (before_turn s) { inbox = rest }) m x w
+here_still s m x rest (what.Migrate to) h = h
+here_still s m x rest (what.Move to) h = h
+here_still s m x rest w h = h
+
+may_freeze : (s : KernelState) (rest : List Message) (r : Resident) → MayFreeze s r → MayFreeze (record (before_turn s) { inbox = rest }) r
+may_freeze s rest r h = record { lawful = h.lawful; moves = h.moves; few = h.few; size = h.size; sent = h.sent }
+
+board_still : (s : KernelState) (v : Board) (rest : List Message) (w : What) → FitsBoard s v w → FitsBoard (record (before_turn s) { inbox = rest }) v w
+board_still s v rest (what.User code channel body links) h = h
+board_still s v rest (what.Migrate to) h = may_freeze s rest (resident.Board v) h
+board_still s v rest w h = h
+
+manager_still : (s : KernelState) (v : Managing) (n : ℕ) (rest : List Message) (w : What) → FitsManager s v n w → FitsManager (record (before_turn s) { inbox = rest }) v n w
+manager_still s v n rest (what.Update about) h = h
+manager_still s v n rest (what.Migrate to) h = may_freeze s rest (resident.Manager v) h
+manager_still s v n rest w h = h
+
+resident_still : (s : KernelState) (m : Message) (rest : List Message) (r : Resident) → FitsResident s m r → FitsResident (record (before_turn s) { inbox = rest }) m r
+resident_still s m rest (resident.Process x) h = here_still s m x rest m.what h
+resident_still s m rest (resident.Board v) h = board_still s v rest m.what h
+resident_still s m rest (resident.Manager v) h = manager_still s v m.id.n rest m.what h
+
 known_still : (s : KernelState) (m : Message) (rest : List Message) (o : Option KernelKnown) → FitsKnown s m o → FitsKnown (record (before_turn s) { inbox = rest }) m o
-known_still s m rest None h = record { board = h.board; manager = h.manager; ended = h.ended }
-known_still s m rest (Some (Here x)) h = here_still s m x rest m.what h
-  where
-    here_still : (s : KernelState) (m : Message) (x : Process) (rest : List Message) (w : What) → FitsHere s m x w → FitsHere (record (before_turn s) { inbox = rest }) m x w
-    here_still s m x rest (what.Migrate to) h = h
-    here_still s m x rest (what.Move to) h = h
-    here_still s m x rest w h = h
+known_still s m rest None h = h
+known_still s m rest (Some (Here r)) h = resident_still s m rest r h
 known_still s m rest (Some (Frozen d)) h = h
 known_still s m rest (Some (Incoming a)) h = h
 known_still s m rest (Some (Forward place moves)) h = h
 
-may_front : (b : Boot) (s : KernelState) (m : Message) (rest : List Message) → MayHandle b s m → MayHandle b (record (before_turn s) { inbox = rest }) m
+pub may_front : (b : Boot) (s : KernelState) (m : Message) (rest : List Message) → MayHandle b s m → MayHandle b (record (before_turn s) { inbox = rest }) m
 may_front b s m rest h =
-    record { lawful = h.lawful; for_kernel = λ is. fits_still b s m rest m.what (h.for_kernel is); for_process = λ no. known_still s m rest (s.records m.to.pid) (h.for_process no); for_server = h.for_server }
+    record { lawful = h.lawful; for_kernel = λ is. fits_still b s m rest m.what (h.for_kernel is); for_process = λ no. known_still s m rest (s.records m.to.pid) (h.for_process no) }
 
 round_lawfully : (b : Boot) (s : KernelState) (o : Option Pid) → s.here < 16 → IsLawfulState s → AreNamed s → Lawfully (goes_round b s o)
 round_lawfully b s None machine h named = record { state = h; parts = said none_said }
@@ -385,7 +397,7 @@ some_lawfully None t e h = absurd (cc)
 some_lawfully (Some u) t e h = let same : u ≡ t = cc in subst IsLawfulTurned same h
 
 pub turn_lawful : (b : Boot) (s : KernelState) (t : Turned) → images_are_valid b.images ≡ true → MayTurn b s → IsLawfulState s → turn b s ≡ Some t → IsLawfulTurned t
-turn_lawful b s t images may h e = some_lawfully (turn b s) t e (turns_lawfully b s s.inbox refl may.here images h (λ p x e. (may.processes p x e).pid) may.front)
+turn_lawful b s t images may h e = some_lawfully (turn b s) t e (turns_lawfully b s s.inbox refl may.here images h (λ p x e. let acts : MayAct s p x = may.processes p x e in record { pid = acts.pid; none = acts.named }) may.front)
 
 -- asking for a move
 pub asked_lawful : (s : KernelState) (p : Pid) (machine : ℕ) (t : Turned) → s.here < 16 → IsMachine machine → IsLawfulState s → asks_move s p machine ≡ Some t → IsLawfulTurned t

@@ -3,6 +3,7 @@ pub mod Names
 pub mod Running
 pub mod Ringing
 pub mod Known
+pub mod Standing
 pub mod Rounds
 pub mod Serving
 pub mod Receiving

@@ -38,7 +38,7 @@ pub use Rattle.dm_linkupdate.proofs.Lawful.{applied_lawful}
 pub use Rattle.dm_linkupdate.specs.Notice.{is_told_back, update_of}
 pub use Rattle.dm_statebytes.proofs.Names.{OnOk, Ready, append_assoc}
 unfoldable pub use Rattle.dm_statebytes.specs.Shell.{registers, shell_of_bytes, shell_spelling}
-pub use Rattle.dm_migrate.proofs.Messages.{lawful_all}
+pub use Rattle.dm_migrate.proofs.Messages.{lawful_all, queue_lawful}
 pub use Rattle.dm_migrate.proofs.Names.{All, All-append, All-cons, All-map, Arrival, Asker, Departure, Err, HasChunk, IfOk, IsLawfulMessage, IsLawfulProcess, IsLawfulStatus, IsMachine, List, Message, None, Ok, Process, Result, Some, What}
 pub use Rattle.dm_migrate.proofs.Names.{[], block_of, chunk_bytes, chunk_of, common_steps, drop, get_or, if◌then◌else◌, into_iter_items, length, length-drop, length-take, map, min, nat_tests, pull, replicate, sent_on, set, state_of, take}
 pub use Rattle.dm_migrate.proofs.Names.{with_chunk, with_piece, ◌*◌, ◌++◌, ◌+◌, ◌-◌, ◌/◌, ◌∷◌, ◌≤◌, ◌⊎◌}
@@ -56,11 +56,11 @@ pub use Rattle.dm_onekernel.specs.declared.boot.BootMachine.{BootMachine}
 pub use Rattle.dm_onekernel.specs.declared.boot.Format.{Format}
 pub use Rattle.dm_onekernel.specs.declared.boot.Format.TheVariants.{One, Two}
 pub use Rattle.dm_onekernel.specs.declared.label.Why.{Why}
-pub use Rattle.dm_switchboard.proofs.Imports.{IsLawfulNamed, is_some}
+pub use Rattle.dm_switchboard.proofs.Imports.{Board, IsLawfulBoard, IsLawfulNamed, is_some}
 pub use Rattle.dm_switchboard.proofs.Lawful.{answer_after, board_after}
 pub use Rattle.dm_procman.proofs.Hearing.{heard}
 pub use Rattle.dm_procman.proofs.Lawful.{manager_after, message_after, moves_lawful, started_lawful}
-pub use Rattle.dm_procman.proofs.Names.{All-push, Boot, BootProcess, IsForManager, IsLawfulAddr, IsSome, IsValid, NoMemory, Outcome, kernel_at, manager, moves_child, process_is_valid, processes_are_valid, rules, starting, starting_at}
+pub use Rattle.dm_procman.proofs.Names.{All-push, Boot, BootProcess, IsForManager, IsLawfulAddr, IsLawfulManager, IsSome, IsValid, Managing, NoMemory, Outcome, kernel_at, manager, asks_to_move, process_is_valid, processes_are_valid, rules, starting, starting_at}
 pub use Rattle.dm_procman.proofs.Names.{switchboard, ◌||◌}
 pub use Rattle.dm_procman.specs.declared.moving.MoveError.{MoveError}
 pub use Rattle.dm_datamove.proofs.Landings.{lands_lawfully}
@@ -82,23 +82,27 @@ pub use Rattle.dm_line.specs.Sets.{moved_back, without}
 pub use Rattle.dm_line.specs.declared.line.Line.{Line}
 pub use Rattle.dm_kernel.proofs.All.{with_all}
 pub use Rattle.dm_kernel.specs.Asking.{asks_manager, asks_move, told_to_move}
-pub use Rattle.dm_kernel.specs.Begun.{begins_process, child_of, empty, opened, room_of, with_child}
+pub use Rattle.dm_kernel.specs.Begun.{bare, begins_process, child_of, empty, opened, room_of, with_child, with_servers}
 pub use Rattle.dm_kernel.specs.Burying.{after_end, buries, ends_with, hears_bury, preds_of, with_told}
-pub use Rattle.dm_kernel.specs.Coming.{accepts, answers_ask, calling_off, calls_arriving_off, calls_off, hears_piece, holds_arriving, if_expected, is_expected, is_not_called, piece_line, restarts, restarts_as, says_stale, takes_piece}
+pub use Rattle.dm_kernel.specs.Coming.{accepts, answers_ask, calling_off, calls_arriving_off, calls_off, hears_piece, holds_arriving, if_expected, is_expected, is_not_called, restarts, restarts_as, says_stale, takes_piece, piece_lines}
 pub use Rattle.dm_kernel.specs.Coming.{took_piece, turns_back, without_arriving}
-pub use Rattle.dm_kernel.specs.Departing.{asked_to_move, freezes, freezing, gives_piece, holds_leaving, leaves, migrates, stays, tells_asker, with_frozen}
+pub use Rattle.dm_kernel.specs.Departing.{asked_to_move, freezes, freezing, gives_piece, holds_leaving, leaves, migrates, stays, tells_asker, tells_of, with_frozen}
 pub use Rattle.dm_kernel.specs.Following.{board_follows, forwards, forwards_and, manager_follows, process_follows}
-pub use Rattle.dm_kernel.specs.Handle.{answers_with, board_handles, board_took, ended_handles, handles, here_handles, kernel_handles, lands, lands_as, makes, makes_of, manager_handles, manager_took, next_pid, process_handles, routes}
-pub use Rattle.dm_kernel.specs.Handle.{told_board, told_manager, unknown_handles}
-pub use Rattle.dm_kernel.specs.Lawful.{AreLawful, IsLawfulArrival, IsLawfulAsker, IsLawfulDeparture, IsLawfulKnown, IsLawfulPair, IsLawfulPart, IsLawfulRoom, IsLawfulState, IsLawfulTurned}
-pub use Rattle.dm_kernel.specs.May.{CanTellAll, FitsBoardWhat, FitsEnded, FitsHere, FitsKernel, FitsKnown, FitsManager, FitsManagerWhat, FitsUnknown, FrontMay, IsSuch, MayAct, MayHandle, MayRestart, MayTurn, most}
+pub use Rattle.dm_kernel.specs.Handle.{answers_with, board_handles, board_took, ended_handles, handles, here_handles, kernel_handles, lands, lands_as, makes, makes_of, manager_handles, manager_took, next_pid, process_handles, routes, resident_handles}
+pub use Rattle.dm_kernel.specs.Handle.{told_board, told_manager}
+pub use Rattle.dm_kernel.specs.Lawful.{AreLawful, IsLawfulArrival, IsLawfulAsker, IsLawfulDeparture, IsLawfulKnown, IsLawfulPart, IsLawfulRoom, IsLawfulState, IsLawfulTurned}
+pub use Rattle.dm_kernel.specs.May.{CanTellAll, FitsEnded, FitsBoard, FitsHere, FitsKernel, FitsKnown, FitsManager, FrontMay, IsSuch, MayAct, MayHandle, MayRestart, MayTurn, most, FitsResident, MayFreeze}
 pub use Rattle.dm_kernel.specs.Meets.{Answers, IsIn, Meets, MeetsSome, kernel_state}
 pub use Rattle.dm_kernel.specs.Serve.{Ran, after_row, called_with, completed_label, does, ends, executes, halts, one_more, processor_of, ran, received, received_by, receives, serves, serves_status, with_machine}
 pub use Rattle.dm_kernel.specs.Served.{Executes, IsHere, Receives, Serves}
-pub use Rattle.dm_kernel.specs.State.{KernelKnown, KernelState, Turned, before_turn, blocks_of, drops, forgets, own, own_id, preceded, says, turned, with_here, with_known, with_sent, without_process}
+pub use Rattle.dm_kernel.specs.State.{KernelKnown, KernelState, Turned, before_turn, blocks_of, drops, forgets, own, own_id, preceded, says, turned, with_here, with_known, with_sent, without_process, board_in, manager_in, process_in, ring_with}
 pub use Rattle.dm_kernel.specs.Turn.{first_runnable, goes_round, known_is_runnable, turn, turns}
 pub use Rattle.dm_kernel.specs.declared.kernel.Kernel.{Kernel}
-pub use Rattle.dm_kernel.specs.declared.kernel.Servers.{Servers}
 pub use Rattle.dm_kernel.specs.declared.part.Part.{Part}
 pub use Rattle.dm_kernel.specs.declared.part.Part.TheVariants.{Routes, Says}
 pub use Rattle.dm_kernel.specs.declared.run.Halt.{Halt}
+pub use Rattle.dm_resident.specs.Lawful.{HasFewAddresses, IsLawfulResident}
+pub use Rattle.dm_resident.specs.Residents.{board_of, manager_of, moves_of, name_of, process_of, queue_of}
+pub use Rattle.dm_resident.specs.declared.Resident.{Resident}
+pub use Rattle.dm_migrate.specs.Departure.{CanMove, IsNamed}
+pub use Rattle.dm_migrate.specs.Rooms.{HasTakenBy, has_room_for, room_with, room_without}

@@ -1,6 +1,6 @@
 -- How the machine of a boot file comes to be, one process at a time.
 use Rattle.dm_kernel.proofs.Names.{◌≡◌, ℕ, zero, suc, ◌+◌, ◌<◌, ◌≤◌, Bool, true, false, ◌==◌, if◌then◌else◌, List, [], ◌∷◌, length, Some, None, slice_get, refl, sym, subst, arith, ◌&&◌, nat_le, common_steps, and_parts, nat_tests, Option}
-use Rattle.dm_kernel.proofs.Names.{at, Boot, BootImage, BootMachine, BootProcess, IsValid, blocks_at, blocks_of_image, machine_is_valid, machines_are_valid, starting_at, Kernel, KernelState, begins_process, child_of, empty, with_child}
+use Rattle.dm_kernel.proofs.Names.{at, Boot, BootImage, BootMachine, BootProcess, IsValid, blocks_at, blocks_of_image, machine_is_valid, machines_are_valid, starting_at, Kernel, KernelState, bare, begins_process, child_of, empty, with_child, with_servers}
 use Rattle.dm_kernel.proofs.Names.{IsIn, kernel_state}
 
 -- a kernel's state, as a whole
@@ -15,7 +15,6 @@ is_state k s h =
       made = h.made i;
       sent = h.sent i;
       room = h.room i;
-      servers = h.servers i;
       over = h.over i;
     }
 
@@ -59,6 +58,11 @@ machine_fits b j (x ∷ xs) (suc i) r valid at =
     let k : j + 1 + i ≡ j + suc i = omega arith in
     subst (λ (k : ℕ). machine_is_valid b k r ≡ true) k (machine_fits b (j + 1) xs i r (and_parts (machine_is_valid b j x) (machines_are_valid b (j + 1) xs) valid).1 next)
 
+-- with the servers or without
+room_or : (b : Boot) (m : ℕ) (ps : List BootProcess) (test : Bool) → HasRoomFor b m (bare b m) ps → HasRoomFor b m (if test then with_servers b (bare b m) else bare b m) ps
+room_or b m ps true h = record { here = h.here; slots = h.slots; blocks = h.blocks; made = h.made }
+room_or b m ps false h = h
+
 fits : (b : Boot) (m : ℕ) (r : BootMachine) → machine_is_valid b m r ≡ true → slice_get b.machines m ≡ Some r → HasRoomFor b m (empty b m) b.processes
 fits b m r valid at =
     let few = and_parts (nat_le r.slots 64) (nat_le r.blocks 4096 && (nat_le (starting_at m b.processes) r.slots && nat_le (blocks_at m b.images b.processes) r.blocks)) valid in
@@ -67,7 +71,7 @@ fits b m r valid at =
     let most : r.slots ≤ 64 = grind (arith, nat_tests, few.0) in
     let slots : starting_at m b.processes ≤ r.slots = grind (arith, nat_tests, all.0) in
     let blocks : blocks_at m b.images b.processes ≤ r.blocks = grind (arith, nat_tests, all.1) in
-    record { here = refl; slots = rw at (omega arith); blocks = rw at (omega arith); made = omega arith }
+    room_or b m b.processes (m == 0) (record { here = refl; slots = rw at (omega arith); blocks = rw at (omega arith); made = omega arith })
 
 pub room_at_first : (b : Boot) (m : ℕ) (r : BootMachine) → IsValid b → slice_get b.machines m ≡ Some r → HasRoomFor b m (empty b m) b.processes
 room_at_first b m r valid at =
@@ -85,3 +89,7 @@ machine_at (r ∷ rs) (suc i) h =
 pub room_from : (b : Boot) (m : ℕ) → IsValid b → m < length b.machines → HasRoomFor b m (empty b m) b.processes
 room_from b m valid h =
     let r : (r : BootMachine) × (slice_get b.machines m ≡ Some r) = machine_at b.machines m h in room_at_first b m r.0 valid r.1
+
+-- with the servers, if it is machine 0
+pub empty_in : (k : Kernel) (b : Boot) (m : ℕ) (s : KernelState) → s ≡ bare b m → IsIn k (if s.here == 0 then with_servers b s else s) → IsIn k (empty b m)
+empty_in k b m s e h = subst (λ (u : KernelState). IsIn k (if u.here == 0 then with_servers b u else u)) e h

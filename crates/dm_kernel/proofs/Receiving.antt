@@ -54,7 +54,6 @@ is_in k s e =
       made = ap (λ (t : KernelState). t.made) e;
       sent = ap (λ (t : KernelState). t.sent) e;
       room = ap (λ (t : KernelState). t.room) e;
-      servers = ap (λ (t : KernelState). t.servers) e;
       over = ap (λ (t : KernelState). t.over) e;
     }
 

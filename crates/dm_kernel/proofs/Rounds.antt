@@ -1,10 +1,10 @@
 -- The first process of the ring that can be served, where looking for it changes nothing.
-use Rattle.dm_kernel.proofs.Names.{◌≡◌, ◌∙◌, ℕ, suc, true, false, take, Some, None, slice_get, ap, subst, sym, Option, IfSome, Pid, IsServiceOf, Process, Service, here_of, IsHere, KernelState, KernelKnown, first_runnable, known_is_runnable}
+use Rattle.dm_kernel.proofs.Names.{◌≡◌, ◌∙◌, ℕ, suc, true, false, take, Some, None, slice_get, ap, subst, sym, Option, IfSome, Pid, IsServiceOf, Process, Service, process_in, IsHere, KernelState, KernelKnown, first_runnable, known_is_runnable}
 use Rattle.dm_kernel.proofs.Known.{is_here_as}
 use Rattle.dm_kernel.proofs.Ringing.{found, not_found}
 
 -- what a process that is here does, said of what is known of it
-pub here_does : (o n : Option KernelKnown) (x : Process) (r : Option Service) → here_of o ≡ Some x → n ≡ o → IfSome r (IsServiceOf x) → IfSome r (λ s. IsHere (λ y. IsServiceOf y s) n)
+pub here_does : (o n : Option KernelKnown) (x : Process) (r : Option Service) → process_in o ≡ Some x → n ≡ o → IfSome r (IsServiceOf x) → IfSome r (λ s. IsHere (λ y. IsServiceOf y s) n)
 here_does o n x None was same h = tt
 here_does o n x (Some s) was same h = subst (IsHere (λ (y : Process). IsServiceOf y s)) (sym same) (is_here_as (λ (y : Process). IsServiceOf y s) o x was h)
 

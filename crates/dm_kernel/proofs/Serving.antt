@@ -1,11 +1,12 @@
 -- What serving a process gives, from what its parts give.
 use Rattle.dm_kernel.proofs.Names.{◌≡◌, ◌∙◌, ℕ, zero, suc, ◌/◌, Bool, true, false, ◌==◌, List, [], ◌∷◌, length, refl, ap, sym, subst, if◌then◌else◌, Some, None, IsSome, slice_get, ◌<◌, arith, rules, Option, Link, Pid, plain_link}
 use Rattle.dm_kernel.proofs.Names.{first_empty, link_at, pid_eq_self, Message, Row, instruction, KeepsLengths, instruction-lengths, Process, Direction, Status, IsLawfulProcess, IsLawfulStatus, direction_numbered, first_on, is_on, Takes}
-use Rattle.dm_kernel.proofs.Names.{HasTaken, Taken, Here, Frozen, Incoming, Forward, here_of, with_record, Reply, CallNumber, Exit, Out, Make, Copy, Drop, Send, Receive, Move, Unknown, call_number, is_outside, is_reply, make_refusals}
+use Rattle.dm_kernel.proofs.Names.{HasTaken, Taken, Here, Frozen, Incoming, Forward, process_in, with_record, Reply, CallNumber, Exit, Out, Make, Copy, Drop, Send, Receive, Move, Unknown, call_number, is_outside, is_reply, make_refusals}
 use Rattle.dm_kernel.proofs.Names.{move_refusals, send_refusals, bind, plain_process, reg, first_failed, Machine, Called, Done, after_send, calls, copies, does_call, message_over, moves, moves_bytes, moves_over, own_link, puts_link}
 use Rattle.dm_kernel.proofs.Names.{replied, sends, unless_refused, waits, whole, KernelState, KernelKnown, blocks_of, with_here, Ran, after_row, called_with, does, executes, halts, processor_of, ran, receives, serves, serves_status}
 use Rattle.dm_kernel.proofs.Names.{with_machine, CanTellAll, MayAct, IsHere, Why, begins, ends}
 use Rattle.dm_kernel.specs.Served.{HasPlace}
+use Rattle.dm_resident.specs.declared.Resident.TheVariants as resident
 use Rattle.dm_processor.specs.Instructions as row
 use Rattle.dm_process.specs.declared.process.Status.TheVariants as status
 use Rattle.dm_onekernel.specs.declared.label.Reply.TheVariants as reply
@@ -46,43 +47,47 @@ runs_lawfully x m k ready lawful =
     }
 
 -- what executing comes to
-pub executes_as : (s : KernelState) (p : Pid) (quantum : ℕ) (x : Process) (r : Ran) → here_of (s.records p) ≡ Some x → ran quantum (processor_of x) ≡ r
-    → bind (here_of (s.records p)) (λ x. executes s p x (ran quantum (processor_of x))) ≡ halts s p r.count (with_machine x r.machine) r.halt
-executes_as s p quantum x r e h = of_here (here_of (s.records p)) x (λ x. executes s p x (ran quantum (processor_of x))) e ∙ ap (executes s p x) h
+pub executes_as : (s : KernelState) (p : Pid) (quantum : ℕ) (x : Process) (r : Ran) → process_in (s.records p) ≡ Some x → ran quantum (processor_of x) ≡ r
+    → bind (process_in (s.records p)) (λ x. executes s p x (ran quantum (processor_of x))) ≡ halts s p r.count (with_machine x r.machine) r.halt
+executes_as s p quantum x r e h = of_here (process_in (s.records p)) x (λ x. executes s p x (ran quantum (processor_of x))) e ∙ ap (executes s p x) h
 
 pub called_as : (s t : KernelState) (p : Pid) (k n : ℕ) (w : Process) (d : Done) (result : Called) → t ≡ with_here s p w → w ≡ d.process → result ≡ d.called
-    → bind (here_of (t.records p)) (λ x. called_with t p k n x result) ≡ does s p k n d
+    → bind (process_in (t.records p)) (λ x. called_with t p k n x result) ≡ does s p k n d
 called_as s t p k n w d result e a b =
-    ap (λ (t : KernelState). bind (here_of (t.records p)) (λ x. called_with t p k n x result)) e
-    ∙ of_here (here_of ((with_here s p w).records p)) w (λ x. called_with (with_here s p w) p k n x result) (there s p w)
+    ap (λ (t : KernelState). bind (process_in (t.records p)) (λ x. called_with t p k n x result)) e
+    ∙ of_here (process_in ((with_here s p w).records p)) w (λ x. called_with (with_here s p w) p k n x result) (there s p w)
     ∙ (λ i. called_with (with_here s p (a i)) p k n (a i) (b i))
 
-pub ended_as : (s t : KernelState) (p : Pid) (k : ℕ) (w : Process) (y : Why) → t ≡ with_here s p w → bind (here_of (t.records p)) (λ x. ends t p k x y) ≡ ends (with_here s p w) p k w y
+pub ended_as : (s t : KernelState) (p : Pid) (k : ℕ) (w : Process) (y : Why) → t ≡ with_here s p w → bind (process_in (t.records p)) (λ x. ends t p k x y) ≡ ends (with_here s p w) p k w y
 ended_as s t p k w y e =
-    ap (λ (t : KernelState). bind (here_of (t.records p)) (λ x. ends t p k x y)) e ∙ of_here (here_of ((with_here s p w).records p)) w (λ x. ends (with_here s p w) p k x y) (there s p w)
+    ap (λ (t : KernelState). bind (process_in (t.records p)) (λ x. ends t p k x y)) e ∙ of_here (process_in ((with_here s p w).records p)) w (λ x. ends (with_here s p w) p k x y) (there s p w)
 
 -- serving a process that is ready, and one that waits
 pub serves_ready : (quantum : ℕ) (s : KernelState) (p : Pid) (o : Option KernelKnown) → IsHere (λ x. x.status ≡ status.Ready) o
-    → bind (here_of o) (λ x. executes s p x (ran quantum (processor_of x))) ≡ serves quantum s p o
+    → bind (process_in o) (λ x. executes s p x (ran quantum (processor_of x))) ≡ serves quantum s p o
 serves_ready quantum s p None h = absurd h
-serves_ready quantum s p (Some (Here x)) h = sym (ap (serves_status quantum s p x) h)
+serves_ready quantum s p (Some (Here (resident.Process x))) h = sym (ap (serves_status quantum s p x) h)
+serves_ready quantum s p (Some (Here (resident.Board v))) h = absurd h
+serves_ready quantum s p (Some (Here (resident.Manager v))) h = absurd h
 serves_ready quantum s p (Some (Frozen leaving)) h = absurd h
 serves_ready quantum s p (Some (Incoming arriving)) h = absurd h
 serves_ready quantum s p (Some (Forward machine moves)) h = absurd h
 
 pub serves_waiting : (quantum : ℕ) (s : KernelState) (p : Pid) (mask place : ℕ) (o : Option KernelKnown) → IsHere (λ x. Takes x mask place) o
-    → bind (here_of o) (λ x. receives s p x mask (first_on mask x.queue)) ≡ serves quantum s p o
+    → bind (process_in o) (λ x. receives s p x mask (first_on mask x.queue)) ≡ serves quantum s p o
 serves_waiting quantum s p mask place None h = absurd h
-serves_waiting quantum s p mask place (Some (Here x)) h = sym (ap (serves_status quantum s p x) h.waits)
+serves_waiting quantum s p mask place (Some (Here (resident.Process x))) h = sym (ap (serves_status quantum s p x) h.waits)
+serves_waiting quantum s p mask place (Some (Here (resident.Board v))) h = absurd h
+serves_waiting quantum s p mask place (Some (Here (resident.Manager v))) h = absurd h
 serves_waiting quantum s p mask place (Some (Frozen leaving)) h = absurd h
 serves_waiting quantum s p mask place (Some (Incoming arriving)) h = absurd h
 serves_waiting quantum s p mask place (Some (Forward machine moves)) h = absurd h
 
 -- it has its slot and its blocks still
-pub has_place : (s t : KernelState) (p : Pid) (x y : Process) (records : Pid → Option KernelKnown) → t.room ≡ s.room → CanTellAll t → ((q : Pid) → t.records q ≡ with_record records p (Here y) q)
+pub has_place : (s t : KernelState) (p : Pid) (x y : Process) (records : Pid → Option KernelKnown) → t.room ≡ s.room → CanTellAll t → ((q : Pid) → t.records q ≡ with_record records p (Here (resident.Process y)) q)
     → length y.memory ≡ length x.memory → MayAct s p x → IsHere (HasPlace t) (t.records p)
 has_place s t p x y records room sent set size may =
-    let e : t.records p ≡ Some (Here y) = set p ∙ rw (pid_eq_self p) refl in
+    let e : t.records p ≡ Some (Here (resident.Process y)) = set p ∙ rw (pid_eq_self p) refl in
     subst (IsHere (HasPlace t)) (sym e) (record { sent = sent; room = subst (λ (n : ℕ). HasTaken t.room (n / 256)) (sym size) (subst (λ (r : Taken). HasTaken r (blocks_of x)) (sym room) may.room) })
 
 -- no call changes the memory

@@ -16,8 +16,9 @@ use Rattle.dm_onekernel.specs.declared.boot.BootProcess.{BootProcess}
 use Rattle.dm_onekernel.specs.declared.boot.Boot.{Boot}
 use Rattle.dm_onekernel.specs.Boot.{slots_of}
 use Rattle.dm_onekernel.specs.Start.{memory_of, slots_with}
-use Rattle.dm_kernel.specs.declared.kernel.Servers.{Servers}
-use Rattle.dm_kernel.specs.State.{KernelState}
+use Rattle.dm_onekernel.specs.Boot.{switchboard, manager}
+use Rattle.dm_resident.specs.declared.Resident.TheVariants as resident
+use Rattle.dm_kernel.specs.State.{KernelState, with_known}
 
 -- a process of this image with these links from slot 0 on, which hasn't executed anything yet
 abbrev pub child_of : Boot → Pid → BootImage → List Link → Process
@@ -27,7 +28,7 @@ child_of b p i links = begun_process p (memory_of i) (slots_with (slots_of b.for
 abbrev pub with_child : KernelState → Pid → Process → ℕ → KernelState
 with_child s child x blocks =
     record s {
-      records = with_record s.records child (Here x);
+      records = with_record s.records child (Here (resident.Process x));
       ring = s.ring ++ child ∷ [];
       made = s.made + 1;
       room = with_reserved s.room blocks;
@@ -42,12 +43,14 @@ abbrev pub room_of : Option BootMachine → Taken
 room_of None = nothing_taken 0 0
 room_of (Some r) = nothing_taken r.slots r.blocks
 
--- the servers are on machine 0
-abbrev pub servers_of : Boot → ℕ → Option Servers
-servers_of b m = if m == 0 then Some (record { board = record { names = []; sent = 0 }; manager = starting b }) else None
+-- the servers begin here
+abbrev pub with_servers : Boot → KernelState → KernelState
+with_servers b s =
+    with_known (with_known s switchboard (Here (resident.Board (record { names = []; sent = 0; moves = 0 })))) manager (Here (resident.Manager (starting b)))
 
-abbrev pub empty : Boot → ℕ → KernelState
-empty b m =
+-- without any process, and without the servers
+abbrev pub bare : Boot → ℕ → KernelState
+bare b m =
     record {
       here = m;
       records = λ p. None;
@@ -57,9 +60,12 @@ empty b m =
       made = 0;
       sent = 0;
       room = room_of (slice_get b.machines m);
-      servers = servers_of b m;
       over = None;
     }
+
+-- the servers are on machine 0
+abbrev pub empty : Boot → ℕ → KernelState
+empty b m = if m == 0 then with_servers b (bare b m) else bare b m
 
 abbrev pub opened : Boot → ℕ → KernelState
 opened b m = fold (λ s p. begins_process b s p (slice_get b.images p.image)) (empty b m) b.processes

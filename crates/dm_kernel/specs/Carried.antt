@@ -1,14 +1,12 @@
--- A turn that freezes a process finds that the process can be carried whole.
+-- A turn that freezes a process or a server finds that it can be carried whole.
 use Rattle.std.specs.Prelude.{◌≡◌, ◌≢◌, ⊤, ℕ, ◌==◌, false, List, [], ◌∷◌}
 use Rattle.std.specs.declared.option.Option.{Option}
 use Rattle.std.specs.declared.option.Option.TheVariants.{None, Some}
-use Rattle.dm_link.specs.Names.{pid_eq}
 use Rattle.dm_message.specs.declared.Message.{Message}
 use Rattle.dm_message.specs.declared.What.{What}
 use Rattle.dm_message.specs.declared.What.TheVariants as what
 use Rattle.dm_records.specs.declared.record.Record.TheVariants.{Here, Frozen, Incoming, Forward}
 use Rattle.dm_migrate.specs.Departure.{CanMove}
-use Rattle.dm_onekernel.specs.Boot.{switchboard, manager}
 use Rattle.dm_kernel.specs.State.{KernelState, KernelKnown}
 
 -- where a message tells its receiver to move to another machine than this one, this holds
@@ -40,18 +38,18 @@ WhereSentOff here (what.Moved outcome) P = ⊤
 WhereSentOff here (what.CallOff pid) P = ⊤
 WhereSentOff here (what.Bury pid) P = ⊤
 
--- a process that is here, and is told to move to another machine, can be carried
+-- what is here, and is told to move to another machine, can be carried
 abbrev pub KnownIsWhole : ℕ → What → Option KernelKnown → Type 0
 KnownIsWhole here w None = ⊤
-KnownIsWhole here w (Some (Here x)) = WhereSentOff here w (CanMove x)
+KnownIsWhole here w (Some (Here r)) = WhereSentOff here w (CanMove r)
 KnownIsWhole here w (Some (Frozen leaving)) = ⊤
 KnownIsWhole here w (Some (Incoming arriving)) = ⊤
 KnownIsWhole here w (Some (Forward machine moves)) = ⊤
 
--- so it is with the receiver of a message, if that is no kernel and no server
+-- so it is with the receiver of a message, if that is no kernel
 abbrev pub FreezesReceiverWhole : KernelState → Message → Type 0
 FreezesReceiverWhole s m =
-    (m.to.pid.num == 0) ≡ false → pid_eq m.to.pid switchboard ≡ false → pid_eq m.to.pid manager ≡ false → KnownIsWhole s.here m.what (s.records m.to.pid)
+    (m.to.pid.num == 0) ≡ false → KnownIsWhole s.here m.what (s.records m.to.pid)
 
 -- and with that of the message at an inbox's front
 abbrev pub FreezesWhole : KernelState → List Message → Type 0

@@ -1,4 +1,4 @@
--- What a machine does where a process comes to it.
+-- What a machine does where a process or a server comes to it.
 use Rattle.std.specs.Prelude.{ℕ, ◌==◌, Bool, true, false, if◌then◌else◌, List, [], ◌∷◌, ◌++◌, length, map}
 use Rattle.std.specs.declared.option.Option.{Option}
 use Rattle.std.specs.declared.option.Option.TheVariants.{None, Some}
@@ -9,8 +9,8 @@ use Rattle.dm_message.specs.declared.Message.{Message}
 use Rattle.dm_message.specs.declared.MsgId.{MsgId}
 use Rattle.dm_message.specs.declared.Outcome.TheVariants as ends
 use Rattle.dm_message.specs.declared.What.TheVariants as what
-use Rattle.dm_process.specs.declared.process.Process.{Process}
-use Rattle.dm_room.specs.Room.{free_blocks, free_slots, has_room, with_released, with_reserved}
+use Rattle.dm_room.specs.Room.{free_blocks, free_slots}
+use Rattle.dm_migrate.specs.Rooms.{has_room_for, room_with, room_without}
 use Rattle.dm_records.specs.declared.record.Record.TheVariants.{Here, Incoming, Forward}
 use Rattle.dm_records.specs.Records.{incoming_of, with_record}
 use Rattle.dm_migrate.specs.declared.arriving.Wanted.{Wanted}
@@ -24,14 +24,15 @@ use Rattle.dm_line.specs.declared.line.Line.TheVariants as line
 use Rattle.dm_line.specs.declared.line.Stage.TheVariants as stage
 use Rattle.dm_kernel.specs.declared.part.Part.{Part}
 use Rattle.dm_kernel.specs.declared.part.Part.TheVariants.{Says, Routes}
-use Rattle.dm_kernel.specs.State.{KernelState, Turned, own, preceded, turned, with_known, with_sent}
-use Rattle.dm_kernel.specs.Departing.{takes_step, tells_asker}
+use Rattle.dm_resident.specs.declared.Resident.{Resident}
+use Rattle.dm_kernel.specs.State.{KernelState, Turned, own, preceded, ring_with, turned, with_known, with_sent}
+use Rattle.dm_kernel.specs.Departing.{takes_step, tells_of}
 
--- a process asks to come: its slot and its blocks are taken, the machine that it comes from is a predecessor, and its first chunk is
+-- a process or a server asks to come: a process's slot and its blocks are taken, the machine that it comes from is a predecessor, and its first chunk is
 -- asked for; or what is free is said
 abbrev pub with_expected : Boot → KernelState → Pid → ℕ → ℕ → ℕ → ℕ → Option Asker → KernelState
 with_expected b s p source blocks moves size asker =
-    record (preceded s p source) { records = with_record s.records p (Incoming (expected p source blocks moves size asker (slots_of b.format))); room = with_reserved s.room blocks }
+    record (preceded s p source) { records = with_record s.records p (Incoming (expected p source blocks moves size asker (slots_of b.format))); room = room_with s.room blocks }
 
 abbrev pub accepts : Boot → KernelState → Message → Pid → ℕ → ℕ → ℕ → Option Asker → Bool → Option Turned
 accepts b s m p blocks moves size asker true =
@@ -40,22 +41,23 @@ accepts b s m p blocks moves size asker false =
     turned (with_sent s) (Says (line.Lacks p (free_slots s.room) (free_blocks s.room)) ∷ Routes (own s m.sender (what.Refuse p (free_slots s.room) (free_blocks s.room))) ∷ [])
 
 abbrev pub answers_ask : Boot → KernelState → Message → Pid → ℕ → ℕ → ℕ → Option Asker → Option Turned
-answers_ask b s m p blocks moves size asker = accepts b s m p blocks moves size asker (has_room s.room blocks)
+answers_ask b s m p blocks moves size asker = accepts b s m p blocks moves size asker (has_room_for s.room blocks)
 
 -- a message for a process that comes waits until it is here
 abbrev pub holds_arriving : KernelState → Message → Arrival → Option Turned
 holds_arriving s m a = turned (with_known s m.to.pid (Incoming (with_held a m))) (Says (line.Held m.id) ∷ [])
 
--- what is said of a piece, by what is asked for after it: the last chunk and the last block are steps
-abbrev pub piece_line : MsgId → Pid → Wanted → Line
-piece_line id p (Chunk k) = line.Proto id
-piece_line id p (Block k) = if k == 0 then line.Migration stage.StateTaken p else line.Proto id
-piece_line id p Nothing = line.Migration stage.MemoryTaken p
+-- what is said of a piece, by what is asked for after it: the last chunk and the last block are steps; of a server, which has no blocks,
+-- the last chunk is both
+abbrev pub piece_lines : MsgId → Pid → ℕ → Wanted → List Line
+piece_lines id p blocks (Chunk k) = line.Proto id ∷ []
+piece_lines id p blocks (Block k) = (if k == 0 then line.Migration stage.StateTaken p else line.Proto id) ∷ []
+piece_lines id p blocks Nothing = if blocks == 0 then line.Migration stage.StateTaken p ∷ line.Migration stage.MemoryTaken p ∷ [] else line.Migration stage.MemoryTaken p ∷ []
 
 -- a piece has come, and the next is asked for, or all is said to have come
 abbrev pub took_piece : KernelState → Message → Pid → Option Arrival → Option Turned
 took_piece s m p None = None
-took_piece s m p (Some a) = turned (with_sent (with_known s p (Incoming a))) (Says (piece_line m.id p a.wanted) ∷ Routes (own s m.sender (pull a.pid a.wanted)) ∷ [])
+took_piece s m p (Some a) = turned (with_sent (with_known s p (Incoming a))) (map Says (piece_lines m.id p a.blocks a.wanted) ++ Routes (own s m.sender (pull a.pid a.wanted)) ∷ [])
 
 abbrev pub takes_piece : KernelState → Message → Pid → Arrival → Option Turned
 takes_piece s m p a = took_piece s m p (with_piece a m.what)
@@ -76,19 +78,19 @@ abbrev pub hears_piece : KernelState → Message → Pid → Option Arrival → 
 hears_piece s m p a = if_expected s m a (takes_piece s m p)
 
 -- it is here: it is served from now on, and what was held is handled first
-abbrev pub restarts_as : KernelState → Pid → Arrival → Option Process → Option Turned
+abbrev pub restarts_as : KernelState → Pid → Arrival → Option Resident → Option Turned
 restarts_as s p a None = None
 restarts_as s p a (Some x) =
-    turned (record s { records = with_record s.records p (Here x); ring = s.ring ++ p ∷ []; inbox = a.held ++ s.inbox })
-    (takes_step stage.Restarted p ∷ tells_asker s.here x ends.Done a.asker)
+    turned (record s { records = with_record s.records p (Here x); ring = ring_with s.ring p x; inbox = a.held ++ s.inbox })
+    (takes_step stage.Restarted p ∷ tells_of s.here x ends.Done a.asker)
 
-abbrev pub restarts : KernelState → Pid → Arrival → Option Turned
-restarts s p a = restarts_as s p a (restarted a)
+abbrev pub restarts : Boot → KernelState → Pid → Arrival → Option Turned
+restarts b s p a = restarts_as s p a (restarted (length b.machines) (length b.images) a)
 
 -- a process that comes is called off: its slot and its blocks are free, what was held for it goes back to the machine that it was to
 -- leave, and that one's kernel is told
 abbrev pub without_arriving : KernelState → Pid → Arrival → KernelState
-without_arriving s p a = record s { records = with_record s.records p (Forward a.source a.moves); room = with_released s.room a.blocks }
+without_arriving s p a = record s { records = with_record s.records p (Forward a.source a.moves); room = room_without s.room a.blocks }
 
 abbrev pub calling_off : KernelState → Pid → Arrival → List Part
 calling_off s p a =

@@ -11,13 +11,14 @@ use Rattle.dm_message.specs.declared.Message.{Message}
 use Rattle.dm_message.specs.Kinds.{kind_of}
 use Rattle.dm_migrate.specs.Departure.{sent_on}
 use Rattle.dm_process.specs.declared.process.Process.{Process}
-use Rattle.dm_switchboard.specs.Board.{named_is_behind, retargeted_named}
-use Rattle.dm_procman.specs.Managing.{pending_is_behind, retargeted_manager}
+use Rattle.dm_records.specs.declared.record.Record.TheVariants.{Here}
+use Rattle.dm_switchboard.specs.Board.{Board, named_is_behind, retargeted_named}
+use Rattle.dm_procman.specs.Managing.{Managing, behind_in, retargeted_manager}
 use Rattle.dm_line.specs.declared.line.Line.TheVariants as line
-use Rattle.dm_kernel.specs.declared.kernel.Servers.{Servers}
+use Rattle.dm_resident.specs.declared.Resident.TheVariants as resident
 use Rattle.dm_kernel.specs.declared.part.Part.{Part}
 use Rattle.dm_kernel.specs.declared.part.Part.TheVariants.{Says, Routes}
-use Rattle.dm_kernel.specs.State.{KernelState, Turned, own_id, turned, with_here, with_sent}
+use Rattle.dm_kernel.specs.State.{KernelState, Turned, own_id, turned, with_here, with_known, with_sent}
 
 -- the message goes on to where its receiver is, and its sender is told of that, if its kind has an update
 abbrev pub forwards_and : KernelState → Message → ℕ → ℕ → Bool → Option Turned
@@ -38,13 +39,13 @@ process_follows s m x about =
     turned (with_here s m.to.pid (applied about.pid about.at about.moves x)) (updated m (count_by (slot_is_behind about.pid about.moves) x.table))
 
 -- the links of the switchboard's names
-abbrev pub board_follows : KernelState → Message → Servers → Addr → Option Turned
+abbrev pub board_follows : KernelState → Message → Board → Addr → Option Turned
 board_follows s m v about =
-    turned (record s { servers = Some (record v { board = record { names = map (retargeted_named about.pid about.at about.moves) v.board.names; sent = v.board.sent } }) })
-    (updated m (count_by (named_is_behind about.pid about.moves) v.board.names))
+    turned (with_known s m.to.pid (Here (resident.Board (record v { names = map (retargeted_named about.pid about.at about.moves) v.names }))))
+    (updated m (count_by (named_is_behind about.pid about.moves) v.names))
 
--- the manager's children, and the links of its pending requests
-abbrev pub manager_follows : KernelState → Message → Servers → Addr → Option Turned
+-- the manager's children, the links of its pending requests, and where it knows the switchboard to be
+abbrev pub manager_follows : KernelState → Message → Managing → Addr → Option Turned
 manager_follows s m v about =
-    turned (record s { servers = Some (record v { manager = retargeted_manager about.pid about.at about.moves v.manager }) })
-    (updated m (count_by (is_behind about.pid about.moves) v.manager.children + count_by (pending_is_behind about.pid about.moves) v.manager.pending))
+    turned (with_known s m.to.pid (Here (resident.Manager (retargeted_manager about.pid about.at about.moves v))))
+    (updated m (behind_in about.pid about.moves v))

@@ -12,7 +12,7 @@ use Rattle.dm_process.specs.declared.process.Process.{Process}
 use Rattle.dm_room.specs.Room.{Taken, free_slots, free_blocks}
 use Rattle.dm_records.specs.declared.record.Record.TheVariants.{Here, Frozen, Incoming, Forward}
 use Rattle.dm_records.specs.Records.{frozen_of, incoming_of}
-use Rattle.dm_migrate.specs.Pieces.{block_of, chunk_of, state_of}
+use Rattle.dm_migrate.specs.Pieces.{block_of, chunk_of}
 use Rattle.dm_datamove.specs.declared.Landed.{Landed}
 use Rattle.dm_datamove.specs.declared.Landed.TheVariants as landed
 use Rattle.dm_datamove.specs.Landing.{Landing, landing}
@@ -29,11 +29,16 @@ use Rattle.dm_line.specs.declared.line.Line.TheVariants as line
 use Rattle.dm_kernel.specs.declared.part.Part.{Part}
 use Rattle.dm_kernel.specs.declared.part.Part.TheVariants.{Says, Routes}
 use Rattle.dm_kernel.specs.Begun.{child_of, with_child}
-use Rattle.dm_kernel.specs.declared.kernel.Servers.{Servers}
+use Rattle.dm_switchboard.specs.Board.{Board}
+use Rattle.dm_procman.specs.Managing.{Managing}
+use Rattle.dm_resident.specs.Packed.{state_of}
+use Rattle.dm_resident.specs.Residents.{memory_of, name_of}
+use Rattle.dm_resident.specs.declared.Resident.{Resident}
+use Rattle.dm_resident.specs.declared.Resident.TheVariants as resident
 use Rattle.dm_kernel.specs.Coming.{answers_ask, hears_piece, holds_arriving, restarts}
 use Rattle.dm_kernel.specs.Departing.{asked_to_move, gives_piece, holds_leaving, leaves, migrates, stays}
 use Rattle.dm_kernel.specs.Following.{board_follows, forwards, manager_follows, process_follows, updated}
-use Rattle.dm_kernel.specs.State.{KernelState, KernelKnown, Turned, preceded, turned, says, with_here}
+use Rattle.dm_kernel.specs.State.{KernelState, KernelKnown, Turned, preceded, turned, says, with_here, with_known}
 use Rattle.dm_kernel.specs.Burying.{after_end, ends_with, hears_bury}
 
 -- a process that is here: its queue takes user messages
@@ -78,7 +83,7 @@ here_handles s m x what.Gone = lands s m (landing s.here x m.what x.status)
 here_handles s m x (what.Create image links) = None
 here_handles s m x (what.Created pid) = None
 here_handles s m x what.NoRoom = None
-here_handles s m x (what.Migrate machine) = migrates s m x machine
+here_handles s m x (what.Migrate machine) = migrates s m (resident.Process x) machine
 here_handles s m x (what.Update about) = process_follows s m x about
 here_handles s m x (what.Ask pid blocks moves size asker) = None
 here_handles s m x (what.Refuse pid free_slots free_blocks) = None
@@ -162,61 +167,61 @@ kernel_handles b s m (what.Migrate machine) = None
 kernel_handles b s m (what.Update about) = None
 kernel_handles b s m (what.Ask pid blocks moves size asker) = answers_ask b s m pid blocks moves size asker
 kernel_handles b s m (what.Refuse pid free_slots free_blocks) = bind (frozen_of (s.records pid)) (stays s pid)
-kernel_handles b s m (what.PullState pid chunk) = bind (frozen_of (s.records pid)) (λ d. gives_piece s m (chunk_of d.process.pid (state_of d.process) chunk))
+kernel_handles b s m (what.PullState pid chunk) = bind (frozen_of (s.records pid)) (λ d. gives_piece s m (chunk_of (name_of d.resident) (state_of d.resident) chunk))
 kernel_handles b s m (what.State pid chunk last bytes) = hears_piece s m pid (incoming_of (s.records pid))
-kernel_handles b s m (what.PullBlock pid block) = bind (frozen_of (s.records pid)) (λ d. gives_piece s m (block_of d.process.pid d.process.memory block))
+kernel_handles b s m (what.PullBlock pid block) = bind (frozen_of (s.records pid)) (λ d. gives_piece s m (block_of (name_of d.resident) (memory_of d.resident) block))
 kernel_handles b s m (what.Memory pid block bytes) = hears_piece s m pid (incoming_of (s.records pid))
 kernel_handles b s m (what.AllTaken pid) = bind (frozen_of (s.records pid)) (leaves s pid)
-kernel_handles b s m (what.Restart pid) = bind (incoming_of (s.records pid)) (restarts s pid)
+kernel_handles b s m (what.Restart pid) = bind (incoming_of (s.records pid)) (restarts b s pid)
 kernel_handles b s m (what.Move machine) = None
 kernel_handles b s m (what.Moved outcome) = None
 kernel_handles b s m (what.CallOff pid) = bind (frozen_of (s.records pid)) (stays (preceded s pid m.id.from.home) pid)
 kernel_handles b s m (what.Bury pid) = hears_bury s m pid
 
--- a server takes a message, and sends at most one; what it doesn't take is an update, and its links follow a process
+-- a server takes a message, and sends at most one; what it doesn't take is an update, and its links follow a process, or it is told to
+-- move
 abbrev pub routes : Option Message → List Part
 routes None = []
 routes (Some m) = Routes m ∷ []
 
-abbrev pub told_board : KernelState → Message → Servers → What → Option Turned
+abbrev pub told_board : KernelState → Message → Board → What → Option Turned
 told_board s m v (what.Update about) = board_follows s m v about
+told_board s m v (what.Migrate machine) = migrates s m (resident.Board v) machine
 told_board s m v w = None
 
-abbrev pub board_took : KernelState → Message → Servers → Option board.Taken → Option Turned
+abbrev pub board_took : KernelState → Message → Board → Option board.Taken → Option Turned
 board_took s m v None = told_board s m v m.what
-board_took s m v (Some t) = turned (record s { servers = Some (record v { board = t.board }) }) (says (label.Took m.id) ∷ routes t.took.answer)
+board_took s m v (Some t) = turned (with_known s m.to.pid (Here (resident.Board t.board))) (says (label.Took m.id) ∷ routes t.took.answer)
 
-abbrev pub board_handles : KernelState → Message → Option Servers → Option Turned
-board_handles s m None = None
-board_handles s m (Some v) = board_took s m v (board.takes s.here v.board m.what)
+abbrev pub board_handles : KernelState → Message → Board → Option Turned
+board_handles s m v = board_took s m v (board.takes s.here v m.what)
 
-abbrev pub told_manager : KernelState → Message → Servers → What → Option Turned
+abbrev pub told_manager : KernelState → Message → Managing → What → Option Turned
 told_manager s m v (what.Update about) = manager_follows s m v about
+told_manager s m v (what.Migrate machine) = migrates s m (resident.Manager v) machine
 told_manager s m v w = None
 
-abbrev pub manager_took : KernelState → Message → Servers → Option manage.Taken → Option Turned
+abbrev pub manager_took : KernelState → Message → Managing → Option manage.Taken → Option Turned
 manager_took s m v None = told_manager s m v m.what
-manager_took s m v (Some t) = turned (record s { servers = Some (record v { manager = t.manager }) }) (says (label.Took m.id) ∷ routes t.message)
+manager_took s m v (Some t) = turned (with_known s m.to.pid (Here (resident.Manager t.manager))) (says (label.Took m.id) ∷ routes t.message)
 
-abbrev pub manager_handles : KernelState → Message → Option Servers → Option Turned
-manager_handles s m None = None
-manager_handles s m (Some v) = manager_took s m v (manage.takes s.here v.manager m.id.n m.what)
+abbrev pub manager_handles : KernelState → Message → Managing → Option Turned
+manager_handles s m v = manager_took s m v (manage.takes s.here v m.id.n m.what)
 
--- without a record the receiver is a server, which has none where it is, or has ended
-abbrev pub unknown_handles : KernelState → Message → Option Turned
-unknown_handles s m =
-    if pid_eq m.to.pid switchboard then board_handles s m s.servers
-    else if pid_eq m.to.pid manager then manager_handles s m s.servers
-    else ended_handles s m m.what
+-- by what is here
+abbrev pub resident_handles : KernelState → Message → Resident → Option Turned
+resident_handles s m (resident.Process x) = here_handles s m x m.what
+resident_handles s m (resident.Board v) = board_handles s m v
+resident_handles s m (resident.Manager v) = manager_handles s m v
 
 -- by what is known of the receiver
 abbrev pub process_handles : KernelState → Message → Option KernelKnown → Option Turned
-process_handles s m None = unknown_handles s m
-process_handles s m (Some (Here x)) = here_handles s m x m.what
+process_handles s m None = ended_handles s m m.what
+process_handles s m (Some (Here x)) = resident_handles s m x
 process_handles s m (Some (Frozen leaving)) = holds_leaving s m leaving
 process_handles s m (Some (Incoming arriving)) = holds_arriving s m arriving
 process_handles s m (Some (Forward machine moves)) = forwards s m machine moves
 
--- the receiver is a kernel, or a server or another process
+-- the receiver is a kernel, or a process or a server
 abbrev pub handles : Boot → KernelState → Message → Option Turned
 handles b s m = if m.to.pid.num == 0 then kernel_handles b s m m.what else process_handles s m (s.records m.to.pid)

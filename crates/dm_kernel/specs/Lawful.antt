@@ -1,4 +1,4 @@
--- The kernels whose processes state bytes can carry, whose messages packets can carry, and whose servers are such.
+-- The kernels whose processes and servers state bytes can carry, and whose messages packets can carry.
 use Rattle.std.specs.Prelude.{List, ◌≤◌}
 use Rattle.std.specs.List.{All}
 use Rattle.std.specs.declared.option.Option.{Option}
@@ -7,21 +7,15 @@ use Rattle.dm_link.specs.declared.Pid.{Pid}
 use Rattle.dm_link.specs.Lawful.{IsLawfulAddr, IsMachine}
 use Rattle.dm_message.specs.declared.Asker.{Asker}
 use Rattle.dm_message.specs.Lawful.{IsLawfulMessage}
-use Rattle.dm_process.specs.Lawful.{IsLawfulProcess}
 use Rattle.dm_room.specs.Room.{Taken}
 use Rattle.dm_records.specs.declared.record.Record.TheVariants.{Here, Frozen, Incoming, Forward}
 use Rattle.dm_migrate.specs.Arrival.{Arrival}
 use Rattle.dm_migrate.specs.Departure.{Departure}
-use Rattle.dm_switchboard.specs.Lawful.{IsLawfulBoard}
-use Rattle.dm_procman.specs.Lawful.{IsLawfulManager}
-use Rattle.dm_kernel.specs.declared.kernel.Servers.{Servers}
+use Rattle.dm_resident.specs.Lawful.{IsLawfulResident}
+use Rattle.dm_migrate.specs.Departure.{Departure}
 use Rattle.dm_kernel.specs.declared.part.Part.{Part}
 use Rattle.dm_kernel.specs.declared.part.Part.TheVariants.{Says, Routes}
 use Rattle.dm_kernel.specs.State.{KernelKnown, KernelState, Turned}
-
-pub record IsLawfulPair (v : Servers) : Type 0 where
-  pub board : IsLawfulBoard v.board
-  pub manager : IsLawfulManager v.manager
 
 -- whoever waits to hear how a move ends is where packets can go
 abbrev pub IsLawfulAsker : Option Asker → Type 0
@@ -29,7 +23,7 @@ IsLawfulAsker asker = IfSome asker (λ (k : Asker). IsLawfulAddr k.addr)
 
 -- a process that leaves goes to a machine
 pub record IsLawfulDeparture (d : Departure) : Type 0 where
-  pub process : IsLawfulProcess d.process
+  pub resident : IsLawfulResident d.resident
   pub to : IsMachine d.to
   pub asker : IsLawfulAsker d.asker
   pub held : All IsLawfulMessage d.held
@@ -43,7 +37,7 @@ pub record IsLawfulArrival (a : Arrival) : Type 0 where
 
 -- what is known of a process
 abbrev pub IsLawfulKnown : KernelKnown → Type 0
-IsLawfulKnown (Here x) = IsLawfulProcess x
+IsLawfulKnown (Here r) = IsLawfulResident r
 IsLawfulKnown (Frozen d) = IsLawfulDeparture d
 IsLawfulKnown (Incoming a) = IsLawfulArrival a
 IsLawfulKnown (Forward machine moves) = IsMachine machine
@@ -57,7 +51,6 @@ pub record IsLawfulState (s : KernelState) : Type 0 where
   pub records : (p : Pid) → IfSome (s.records p) IsLawfulKnown
   pub room : IsLawfulRoom s.room
   pub inbox : All IsLawfulMessage s.inbox
-  pub servers : IfSome s.servers IsLawfulPair
 
 -- a message that goes out is lawful
 abbrev pub IsLawfulPart : Part → Type 0

@@ -1,4 +1,5 @@
 pub mod State
+pub mod Lent
 pub mod Begun
 pub mod Burying
 pub mod Serve

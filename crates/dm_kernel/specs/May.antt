@@ -15,18 +15,28 @@ use Rattle.dm_room.specs.Room.{HasTaken, Taken}
 use Rattle.dm_records.specs.declared.record.Record.TheVariants.{Here, Frozen, Incoming, Forward}
 use Rattle.dm_records.specs.Records.{frozen_of, incoming_of}
 use Rattle.dm_migrate.specs.declared.arriving.Wanted.TheVariants.{Nothing}
-use Rattle.dm_migrate.specs.Answer.{IsAskOfProcess}
+use Rattle.dm_migrate.specs.Answer.{IsAskToCome}
 use Rattle.dm_migrate.specs.Arrival.{Arrival, IsNextPiece, restarted}
-use Rattle.dm_migrate.specs.Departure.{Departure}
-use Rattle.dm_migrate.specs.Pieces.{HasBlock, HasChunk, state_of}
+use Rattle.dm_migrate.specs.Pieces.{HasBlock, HasChunk}
 use Rattle.dm_datamove.specs.Serving.{IsWithin}
 use Rattle.dm_datamove.specs.Landing.{IsAwaited}
 use Rattle.dm_procman.specs.Taking.{IsForManager}
 use Rattle.dm_onekernel.specs.declared.boot.Boot.{Boot}
 use Rattle.dm_onekernel.specs.Boot.{first_number, switchboard, manager}
-use Rattle.dm_kernel.specs.declared.kernel.Servers.{Servers}
+use Rattle.dm_switchboard.specs.Board.{Board}
+use Rattle.dm_procman.specs.Managing.{Managing}
+use Rattle.dm_migrate.specs.Departure.{Departure}
+use Rattle.dm_resident.specs.Packed.{state_of}
+use Rattle.dm_migrate.specs.Departure.{Departure}
+use Rattle.dm_migrate.specs.Rooms.{HasTakenBy}
+use Rattle.dm_onekernel.specs.Boot.{manager}
+use Rattle.dm_resident.specs.Lawful.{HasFewAddresses, IsLawfulResident}
+use Rattle.dm_resident.specs.Residents as residents
+use Rattle.dm_resident.specs.Residents.{memory_of, moves_of, queue_of}
+use Rattle.dm_resident.specs.declared.Resident.{Resident}
+use Rattle.dm_resident.specs.declared.Resident.TheVariants as resident
 use Rattle.dm_kernel.specs.Coming.{is_expected}
-use Rattle.dm_kernel.specs.State.{KernelKnown, KernelState, blocks_of}
+use Rattle.dm_kernel.specs.State.{KernelKnown, KernelState, blocks_of, manager_in}
 
 -- counts and process numbers are below the greatest u32
 abbrev pub most : ℕ
@@ -36,9 +46,11 @@ most = 4294967295
 abbrev pub CanTellAll : KernelState → Type 0
 CanTellAll s = s.sent + 16 ≤ most
 
--- a process that is here bears its name, can be carried, can count one more message, and has its slot and its blocks
+-- a process that is here bears its name, which is no server's, can be carried, can count one more message, and has its slot and its
+-- blocks
 pub record MayAct (s : KernelState) (p : Pid) (x : Process) : Type 0 where
   pub pid : x.pid ≡ p
+  pub named : ¬ IsServer p
   pub lawful : IsLawfulProcess x
   pub sent : x.sent < most
   pub room : HasTaken s.room (blocks_of x)
@@ -82,15 +94,17 @@ IsSuch P (Some x) = P x
 
 -- a process that leaves has its slot and its blocks, and what goes on can be counted
 pub record MayLeave (r : Taken) (d : Departure) : Type 0 where
-  pub room : HasTaken r (blocks_of d.process)
-  pub few : length d.process.queue + length d.held < most
+  pub room : HasTakenBy r (residents.blocks_of d.resident)
+  pub few : length (queue_of d.resident) + length d.held < most
 
--- all of a process that comes has come, and it can be carried
-pub record MayRestart (a : Arrival) : Type 0 where
+-- all of what comes has come, and it can be carried; a server is read as one of this system, which is no larger than its numbers can say
+pub record MayRestart (b : Boot) (a : Arrival) : Type 0 where
   pub whole : a.wanted ≡ Nothing
-  pub process : Process
-  pub restarts : restarted a ≡ Some process
-  pub lawful : IsLawfulProcess process
+  pub few_machines : length b.machines < 256
+  pub few_images : length b.images < 65536
+  pub resident : Resident
+  pub restarts : restarted (length b.machines) (length b.images) a ≡ Some resident
+  pub lawful : IsLawfulResident resident
 
 -- a piece that is waited for from the machine that sent it is the next one, and the kernel can ask for one more; of another nothing
 -- is asked
@@ -103,46 +117,49 @@ FitsPiece s m w a = is_expected a m.id.from.home ≡ true → IsSuch (λ x. IsNe
 -- has ended others can be told
 abbrev pub FitsKernel : Boot → KernelState → Message → What → Type 0
 FitsKernel b s m (what.Create image links) = (image < length b.images) × (first_number + s.made < most)
-FitsKernel b s m (what.Ask pid blocks moves size asker) = IsAskOfProcess (what.Ask pid blocks moves size asker) × (s.sent < most)
+FitsKernel b s m (what.Ask pid blocks moves size asker) = IsAskToCome (what.Ask pid blocks moves size asker) × (s.sent < most)
 FitsKernel b s m (what.Refuse pid free_slots free_blocks) = IsSome (frozen_of (s.records pid))
-FitsKernel b s m (what.PullState pid chunk) = IsSuch (λ d. HasChunk (state_of d.process) chunk) (frozen_of (s.records pid)) × (s.sent < most)
+FitsKernel b s m (what.PullState pid chunk) = IsSuch (λ d. HasChunk (state_of d.resident) chunk) (frozen_of (s.records pid)) × (s.sent < most)
 FitsKernel b s m (what.State pid chunk last bytes) = FitsPiece s m (what.State pid chunk last bytes) (incoming_of (s.records pid))
-FitsKernel b s m (what.PullBlock pid block) = IsSuch (λ d. HasBlock d.process.memory block) (frozen_of (s.records pid)) × (s.sent < most)
+FitsKernel b s m (what.PullBlock pid block) = IsSuch (λ d. HasBlock (memory_of d.resident) block) (frozen_of (s.records pid)) × (s.sent < most)
 FitsKernel b s m (what.Memory pid block bytes) = FitsPiece s m (what.Memory pid block bytes) (incoming_of (s.records pid))
 FitsKernel b s m (what.AllTaken pid) = IsSuch (MayLeave s.room) (frozen_of (s.records pid)) × (s.sent < most)
-FitsKernel b s m (what.Restart pid) = IsSuch MayRestart (incoming_of (s.records pid))
+FitsKernel b s m (what.Restart pid) = IsSuch (MayRestart b) (incoming_of (s.records pid))
 FitsKernel b s m (what.CallOff pid) = IsSome (frozen_of (s.records pid))
 FitsKernel b s m (what.Bury pid) = CanTellAll s
 FitsKernel b s m w = ⊥
 
--- a server takes a message that is one for it, and can send one more; the addresses that it keeps can be counted
-abbrev pub FitsBoardWhat : Servers → What → Type 0
-FitsBoardWhat v (what.User code channel body links) = v.board.sent < most
-FitsBoardWhat v (what.Update about) = length v.board.names < 2 ^ 31
-FitsBoardWhat v w = ⊥
+-- what can be frozen: it can move once more, what it keeps can be counted, and its state bytes too; and the kernel can send one message
+-- more
+pub record MayFreeze (s : KernelState) (r : Resident) : Type 0 where
+  pub lawful : IsLawfulResident r
+  pub moves : moves_of r < most
+  pub few : HasFewAddresses r
+  pub size : length (state_of r) ≤ most
+  pub sent : s.sent < most
 
-abbrev pub FitsBoard : Message → Option Servers → Type 0
-FitsBoard m None = ⊥
-FitsBoard m (Some v) = FitsBoardWhat v m.what
+-- a server takes a message that is one for it, and can send one more; the addresses that it keeps can be counted; or it is told to move
+abbrev pub FitsBoard : KernelState → Board → What → Type 0
+FitsBoard s v (what.User code channel body links) = v.sent < most
+FitsBoard s v (what.Update about) = length v.names < 2 ^ 31
+FitsBoard s v (what.Migrate machine) = MayFreeze s (resident.Board v)
+FitsBoard s v w = ⊥
 
-abbrev pub FitsManagerWhat : Servers → ℕ → What → Type 0
-FitsManagerWhat v n (what.Update about) = length v.manager.children + length v.manager.pending < 2 ^ 31
-FitsManagerWhat v n w = IsForManager v.manager n w × (v.manager.sent < most) × (length v.manager.children < most)
+abbrev pub FitsManager : KernelState → Managing → ℕ → What → Type 0
+FitsManager s v n (what.Update about) = length v.children + length v.pending < 2 ^ 31
+FitsManager s v n (what.Migrate machine) = MayFreeze s (resident.Manager v)
+FitsManager s v n w = IsForManager v n w × (v.sent < most) × (length v.children < most)
 
-abbrev pub FitsManager : Message → Option Servers → Type 0
-FitsManager m None = ⊥
-FitsManager m (Some v) = FitsManagerWhat v m.id.n m.what
-
--- a message whose receiver has no record: a server, which has none where it is, or a process that has ended
-pub record FitsUnknown (s : KernelState) (m : Message) : Type 0 where
-  pub ended : (pid_eq m.to.pid switchboard || pid_eq m.to.pid manager) ≡ false → FitsEnded m.what
-  pub board : pid_eq m.to.pid switchboard ≡ true → FitsBoard m s.servers
-  pub manager : pid_eq m.to.pid manager ≡ true → FitsManager m s.servers
+-- a message for what is here
+abbrev pub FitsResident : KernelState → Message → Resident → Type 0
+FitsResident s m (resident.Process x) = FitsHere s m x m.what
+FitsResident s m (resident.Board v) = FitsBoard s v m.what
+FitsResident s m (resident.Manager v) = FitsManager s v m.id.n m.what
 
 -- what the receiver may get waits or goes on where it leaves, comes or has gone
 abbrev pub FitsKnown : KernelState → Message → Option KernelKnown → Type 0
-FitsKnown s m None = FitsUnknown s m
-FitsKnown s m (Some (Here x)) = FitsHere s m x m.what
+FitsKnown s m None = FitsEnded m.what
+FitsKnown s m (Some (Here r)) = FitsResident s m r
 FitsKnown s m (Some (Frozen leaving)) = ⊤
 FitsKnown s m (Some (Incoming arriving)) = ⊤
 FitsKnown s m (Some (Forward machine moves)) = s.sent < most
@@ -151,8 +168,6 @@ pub record MayHandle (b : Boot) (s : KernelState) (m : Message) : Type 0 where
   pub lawful : IsLawfulMessage m
   pub for_kernel : (m.to.pid.num == 0) ≡ true → FitsKernel b s m m.what
   pub for_process : (m.to.pid.num == 0) ≡ false → FitsKnown s m (s.records m.to.pid)
-  -- a server has no record where it is
-  pub for_server : IsServer m.to.pid → s.records m.to.pid ≡ None
 
 abbrev pub FrontMay : Boot → KernelState → List Message → Type 0
 FrontMay b s [] = ⊤
@@ -161,19 +176,19 @@ FrontMay b s (m ∷ rest) = MayHandle b s m
 pub record MayTurn (b : Boot) (s : KernelState) : Type 0 where
   pub here : s.here < 16
   pub sent : CanTellAll s
-  pub processes : (p : Pid) (x : Process) → s.records p ≡ Some (Here x) → MayAct s p x
+  pub processes : (p : Pid) (x : Process) → s.records p ≡ Some (Here (resident.Process x)) → MayAct s p x
   pub front : FrontMay b s s.inbox
 
 -- what asking for a move counts on: the machine has the manager, and can send one more message
 pub record MayAskMove (s : KernelState) : Type 0 where
   pub here : s.here < 16
   pub sent : s.sent < most
-  pub servers : IsSome s.servers
+  pub manager : IsSome (manager_in (s.records manager))
 
 -- what calling off counts on: the machine can send one more message; a process that comes has its slot and its blocks, and what goes
 -- back can be counted
 pub record MayCallOff (s : KernelState) (p : Pid) : Type 0 where
   pub here : s.here < 16
   pub sent : s.sent < most
-  pub room : IfSome (incoming_of (s.records p)) (λ (a : Arrival). HasTaken s.room a.blocks)
+  pub room : IfSome (incoming_of (s.records p)) (λ (a : Arrival). HasTakenBy s.room a.blocks)
   pub few : IfSome (incoming_of (s.records p)) (λ (a : Arrival). length a.held < most)

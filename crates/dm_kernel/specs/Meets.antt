@@ -23,7 +23,6 @@ pub record IsIn (k : Kernel) (s : KernelState) : Type 0 where
   pub made : k.made ≡ s.made
   pub sent : k.sent ≡ s.sent
   pub room : k.room ≡ s.room
-  pub servers : k.servers ≡ s.servers
   pub over : k.over ≡ s.over
 
 -- the kernel and the parts are these

@@ -26,6 +26,7 @@ use Rattle.dm_kernel.specs.declared.part.Part.TheVariants.{Routes}
 use Rattle.dm_kernel.specs.declared.run.Halt.{Halt}
 use Rattle.dm_kernel.specs.declared.run.Halt.TheVariants as halt
 use Rattle.dm_records.specs.declared.record.Record.TheVariants.{Here, Frozen, Incoming, Forward}
+use Rattle.dm_resident.specs.declared.Resident.TheVariants as resident
 use Rattle.dm_kernel.specs.State.{KernelState, KernelKnown, Turned, turned, says, with_here}
 use Rattle.dm_kernel.specs.Burying.{after_end, ends_with}
 
@@ -105,7 +106,9 @@ serves_status quantum s p x (status.Moving dir owner base own left pending) = No
 -- a process of the ring is here
 abbrev pub serves : ℕ → KernelState → Pid → Option KernelKnown → Option Turned
 serves quantum s p None = None
-serves quantum s p (Some (Here x)) = serves_status quantum s p x x.status
+serves quantum s p (Some (Here (resident.Process x))) = serves_status quantum s p x x.status
+serves quantum s p (Some (Here (resident.Board v))) = None
+serves quantum s p (Some (Here (resident.Manager v))) = None
 serves quantum s p (Some (Frozen leaving)) = None
 serves quantum s p (Some (Incoming arriving)) = None
 serves quantum s p (Some (Forward machine moves)) = None

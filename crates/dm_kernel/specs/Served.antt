@@ -10,17 +10,22 @@ use Rattle.dm_process.specs.declared.process.Service.{Service}
 use Rattle.dm_process.specs.declared.process.Status.TheVariants.{Ready}
 use Rattle.dm_records.specs.declared.record.Record.TheVariants.{Here, Frozen, Incoming, Forward}
 use Rattle.dm_room.specs.Room.{HasTaken, Taken}
+use Rattle.dm_migrate.specs.Departure.{Departure}
+use Rattle.dm_migrate.specs.Departure.{Departure}
+use Rattle.dm_resident.specs.Residents.{moves_of}
+use Rattle.dm_resident.specs.declared.Resident.TheVariants as resident
 use Rattle.dm_kernel.specs.State.{KernelKnown, KernelState, blocks_of}
 use Rattle.dm_process.specs.Lawful.{IsLawfulProcess}
 use Rattle.dm_datamove.specs.Serving.{IsWithin}
 use Rattle.dm_datamove.specs.Landing.{IsAwaited}
-use Rattle.dm_migrate.specs.Departure.{Departure}
 use Rattle.dm_kernel.specs.May.{CanTellAll, MayAct, MayLeave, FitsHere, most}
 
 -- it is here, and this holds of it
 abbrev pub IsHere : (Process → Type 0) → Option KernelKnown → Type 0
 IsHere P None = ⊥
-IsHere P (Some (Here x)) = P x
+IsHere P (Some (Here (resident.Process x))) = P x
+IsHere P (Some (Here (resident.Board v))) = ⊥
+IsHere P (Some (Here (resident.Manager v))) = ⊥
 IsHere P (Some (Frozen leaving)) = ⊥
 IsHere P (Some (Incoming arriving)) = ⊥
 IsHere P (Some (Forward machine moves)) = ⊥
@@ -63,14 +68,8 @@ pub record AwaitsPiece (m : Message) (x : Process) : Type 0 where
   pub sent : x.sent < most
   pub awaited : IsAwaited x.status m
 
--- it can be carried, and can move once more; the kernel can send one message more
-pub record CanFreeze (s : KernelState) (x : Process) : Type 0 where
-  pub lawful : IsLawfulProcess x
-  pub moves : x.moves < most
-  pub sent : s.sent < most
-
 -- it leaves for this machine, where it is after so many moves; it has its slot and its blocks, and what goes on can be counted
 pub record LeavesFor (r : Taken) (machine moves : ℕ) (d : Departure) : Type 0 where
   pub machine_is : d.to ≡ machine
-  pub moves_are : d.process.moves + 1 ≡ moves
+  pub moves_are : moves_of d.resident + 1 ≡ moves
   pub may : MayLeave r d

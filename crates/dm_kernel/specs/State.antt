@@ -1,5 +1,5 @@
 -- The kernel of one machine over plain functions and lists, and what an event gives.
-use Rattle.std.specs.Prelude.{ℕ, ◌+◌, ◌/◌, Bool, false, List, length, map}
+use Rattle.std.specs.Prelude.{ℕ, ◌+◌, ◌/◌, Bool, false, List, [], ◌∷◌, ◌++◌, length, map}
 use Rattle.std.specs.declared.option.Option.{Option}
 use Rattle.std.specs.declared.option.Option.TheVariants.{None, Some}
 use Rattle.dm_link.specs.declared.Addr.{Addr}
@@ -12,22 +12,26 @@ use Rattle.dm_message.specs.declared.What.{What}
 use Rattle.dm_process.specs.declared.process.Process.{Process}
 use Rattle.dm_room.specs.Room.{Taken, with_released}
 use Rattle.dm_records.specs.declared.record.Record as record_
-use Rattle.dm_records.specs.declared.record.Record.TheVariants.{Here}
+use Rattle.dm_records.specs.declared.record.Record.TheVariants.{Here, Frozen, Incoming, Forward}
 use Rattle.dm_records.specs.Records.{with_pred, with_record, without_preds, without_record}
 use Rattle.dm_migrate.specs.Departure.{Departure}
+use Rattle.dm_procman.specs.Managing.{Managing}
+use Rattle.dm_switchboard.specs.Board.{Board}
+use Rattle.dm_resident.specs.declared.Resident.{Resident}
+use Rattle.dm_resident.specs.Residents.{board_of, manager_of, process_of}
+use Rattle.dm_resident.specs.declared.Resident.TheVariants as resident
 use Rattle.dm_migrate.specs.Arrival.{Arrival}
 use Rattle.dm_onekernel.specs.declared.label.Label.{Label}
 use Rattle.dm_onekernel.specs.declared.label.Label.TheVariants as label
 use Rattle.dm_onekernel.specs.declared.label.Why.{Why}
 use Rattle.dm_line.specs.declared.line.Line.TheVariants as line
 use Rattle.dm_line.specs.Sets.{without}
-use Rattle.dm_kernel.specs.declared.kernel.Servers.{Servers}
 use Rattle.dm_kernel.specs.declared.part.Part.{Part}
 use Rattle.dm_kernel.specs.declared.part.Part.TheVariants.{Says}
 
--- what a machine knows of a process
+-- what a machine knows of a process or a server
 abbrev pub KernelKnown : Type 0
-KernelKnown = record_.Record Process Departure Arrival
+KernelKnown = record_.Record Resident Departure Arrival
 
 pub record KernelState : Type 0 where
   pub here : ℕ
@@ -43,7 +47,6 @@ pub record KernelState : Type 0 where
   -- how many messages of its own the kernel has sent
   pub sent : ℕ
   pub room : Taken
-  pub servers : Option Servers
   -- the process that ended in the last turn, if one did, and why
   pub over : Option (Pid × Why)
 
@@ -59,7 +62,37 @@ abbrev pub says : Label → Part
 says l = Says (line.Label l)
 
 abbrev pub with_here : KernelState → Pid → Process → KernelState
-with_here s p x = record s { records = with_record s.records p (Here x) }
+with_here s p x = record s { records = with_record s.records p (Here (resident.Process x)) }
+
+-- a process, where it is here
+abbrev pub process_in : Option KernelKnown → Option Process
+process_in None = None
+process_in (Some (Here r)) = process_of r
+process_in (Some (Frozen leaving)) = None
+process_in (Some (Incoming arriving)) = None
+process_in (Some (Forward machine moves)) = None
+
+-- the manager, where it is here
+abbrev pub manager_in : Option KernelKnown → Option Managing
+manager_in None = None
+manager_in (Some (Here r)) = manager_of r
+manager_in (Some (Frozen leaving)) = None
+manager_in (Some (Incoming arriving)) = None
+manager_in (Some (Forward machine moves)) = None
+
+-- the switchboard, where it is here
+abbrev pub board_in : Option KernelKnown → Option Board
+board_in None = None
+board_in (Some (Here r)) = board_of r
+board_in (Some (Frozen leaving)) = None
+board_in (Some (Incoming arriving)) = None
+board_in (Some (Forward machine moves)) = None
+
+-- the place in the ring of what goes on here: only processes are served
+abbrev pub ring_with : List Pid → Pid → Resident → List Pid
+ring_with ring p (resident.Process x) = ring ++ p ∷ []
+ring_with ring p (resident.Board b) = ring
+ring_with ring p (resident.Manager g) = ring
 
 -- the blocks of a process's memory
 abbrev pub blocks_of : Process → ℕ

@@ -11,6 +11,7 @@ use Rattle.dm_onekernel.specs.declared.boot.Boot.{Boot}
 use Rattle.dm_line.specs.declared.line.Line.TheVariants as line
 use Rattle.dm_line.specs.Sets.{moved_back}
 use Rattle.dm_kernel.specs.declared.part.Part.TheVariants.{Says}
+use Rattle.dm_resident.specs.declared.Resident.TheVariants as resident
 use Rattle.dm_kernel.specs.State.{KernelKnown, KernelState, Turned, before_turn, turned}
 use Rattle.dm_kernel.specs.Serve.{serves}
 use Rattle.dm_kernel.specs.Handle.{handles}
@@ -18,7 +19,9 @@ use Rattle.dm_kernel.specs.Handle.{handles}
 -- a process that leaves, comes or has gone isn't served
 abbrev pub known_is_runnable : Option KernelKnown → Bool
 known_is_runnable None = false
-known_is_runnable (Some (Here x)) = is_runnable x
+known_is_runnable (Some (Here (resident.Process x))) = is_runnable x
+known_is_runnable (Some (Here (resident.Board v))) = false
+known_is_runnable (Some (Here (resident.Manager v))) = false
 known_is_runnable (Some (Frozen leaving)) = false
 known_is_runnable (Some (Incoming arriving)) = false
 known_is_runnable (Some (Forward machine moves)) = false

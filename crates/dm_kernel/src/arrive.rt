@@ -1,35 +1,36 @@
-//! What a machine's kernel does where a process comes to it.
-ghost use Rattle.std.specs.Prelude.{◌≡◌, ◌<◌, ◌≤◌, ◌++◌, ◌∷◌, [], IsSome, OnOk, Some, true};
+//! What a machine's kernel does where a process or a server comes to it.
+ghost use Rattle.std.specs.Prelude.{◌≡◌, ◌<◌, ◌≤◌, ◌++◌, ◌∷◌, [], IsSome, OnOk, Some, true, IfOk, map};
 ghost use Rattle.dm_records.specs.Records.{HasPlace, at, incoming_of, with_record};
 ghost use Rattle.dm_records.specs.declared.record.Record.TheVariants.{Here, Incoming};
 ghost use Rattle.dm_migrate.specs.Arrival.{Arrival, IsNextChunk, with_block, with_chunk};
 ghost use Rattle.dm_onekernel.specs.Options.{bind};
-ghost use Rattle.dm_kernel.specs.Coming.{answers_ask, holds_arriving, if_expected, is_expected, piece_line, restarts, took_piece};
+ghost use Rattle.dm_kernel.specs.Coming.{answers_ask, holds_arriving, if_expected, is_expected, restarts, took_piece, piece_lines};
 ghost use Rattle.dm_kernel.specs.Departing.{takes_step};
 ghost use Rattle.dm_kernel.specs.May.{IsSuch, MayRestart};
 ghost use Rattle.dm_kernel.specs.Meets.{Answers, IsIn, kernel_state};
-ghost use Rattle.dm_kernel.specs.State.{own, preceded, turned, with_known, with_sent};
+ghost use Rattle.dm_kernel.specs.State.{own, preceded, turned, with_known, with_sent, ring_with};
 ghost use Rattle.dm_line.specs.declared.line.Line.TheVariants as line_;
 ghost use Rattle.dm_line.specs.declared.line.Stage.TheVariants as stage_;
 
+use crate::depart::{route, step};
 use crate::kernel::Kernel;
 use crate::part::Part;
+use crate::ring::join;
 use dm_line::line::{Line, Stage};
 use dm_link::{MACHINES, Pid};
 use dm_lists::put_before;
-use dm_memory::{NoMemory, Parcel};
+use dm_memory::{NoMemory, Parcel, list_of};
 use dm_message::{Message, MsgId, Outcome, What};
 use dm_migrate::{Arriving, Ask, Asked, Wanted, answer_ask};
 use dm_onekernel::Boot;
-use dm_process::Process;
 use dm_processor::MOST_BLOCKS;
 use dm_records::Record;
+use dm_resident::Resident;
 use dm_room::Lacks;
-use dm_statebytes::MOST_STATE;
 use std::alloc::Global;
 
 impl Kernel {
-    /// Answers a process that asks to come.
+    /// Answers a process or a server that asks to come.
     pub(crate) fn answer(
         &mut self,
         boot: &Boot,
@@ -37,10 +38,8 @@ impl Kernel {
         ask: Ask,
     ) -> Result<Vec<Part>, NoMemory>
         requires sent { self.old.sent < u32.MAX }
-        requires least { 1 ≤ ask.blocks }
         requires most { ask.blocks ≤ MOST_BLOCKS }
         requires moves { ask.moves < u32.MAX }
-        requires size { ask.size ≤ MOST_STATE }
         requires source { ask.source ≡ message.now.id.from.home }
         requires from { message.now.id.from.home < MACHINES }
         ensures { Answers result self.new (answers_ask boot.now (kernel_state self.old) message.now ask.pid ask.blocks ask.moves ask.size ask.asker) }
@@ -52,7 +51,7 @@ impl Kernel {
         }
     }
 
-    /// Lets a process come: the machine that asked is a predecessor, and the first chunk is asked for.
+    /// Lets it come: the machine that asked is a predecessor, and the first chunk is asked for.
     fn accept(
         &mut self,
         message: &Message,
@@ -99,7 +98,7 @@ impl Kernel {
         self.say_and_route(said, refusal)
     }
 
-    /// Keeps a message for a process that comes.
+    /// Keeps a message for what comes.
     pub(crate) fn hold_arriving(&mut self, message: Parcel<Message>) -> Result<Vec<Part>, NoMemory>
         requires { IsSome (incoming_of (at self.old.records message.to.pid)) }
         ensures { Answers result self.new (bind (incoming_of (at self.old.records message.to.pid)) (λ a. holds_arriving (kernel_state self.old) message a)) }
@@ -133,8 +132,8 @@ impl Kernel {
         }
         let arriving = self.records.incoming_mut(pid).unwrap();
         let pull = arriving.take_chunk(chunk, last, bytes);
-        let said = piece_line(message.id, pid, arriving.wanted());
-        self.pull(message, said, pull)
+        let (blocks, wanted) = (arriving.blocks(), arriving.wanted());
+        self.say_piece(message, pid, blocks, wanted, pull)
     }
 
     /// Takes the block that was asked for of the memory of a process that comes, and asks for the next piece; unless the process
@@ -156,11 +155,61 @@ impl Kernel {
         }
         let arriving = self.records.incoming_mut(pid).unwrap();
         let pull = arriving.take_block(block, bytes);
-        let said = piece_line(message.id, pid, arriving.wanted());
-        self.pull(message, said, pull)
+        let (blocks, wanted) = (arriving.blocks(), arriving.wanted());
+        self.say_piece(message, pid, blocks, wanted, pull)
     }
 
-    /// Whether a process is on its way here from a machine.
+    /// Says what a piece was, by what is asked for after it, and asks who sent it for that. Of a server, which has no blocks, the last
+    /// chunk is the last piece.
+    fn say_piece(
+        &mut self,
+        message: &Message,
+        pid: Pid,
+        blocks: u16,
+        wanted: Wanted,
+        pull: What,
+    ) -> Result<Vec<Part>, NoMemory>
+        requires { self.old.sent < u32.MAX }
+        ensures { Answers result self.new (turned (with_sent (kernel_state self.old))
+            (map Part.Says (piece_lines message.now.id pid blocks wanted) ++ Part.Routes (own (kernel_state self.old) message.now.sender pull) ∷ [])) }
+    {
+        let mut parts = self.piece_lines(message.id, pid, blocks, wanted)?;
+        let pull = self.send(message.sender, pull);
+        route(self.alloc, pull, &mut parts)?;
+        Ok(parts)
+    }
+
+    /// What is said of a piece, by what is asked for after it.
+    fn piece_lines(
+        &self,
+        id: MsgId,
+        pid: Pid,
+        blocks: u16,
+        wanted: Wanted,
+    ) -> Result<Vec<Part>, NoMemory>
+        ensures { IfOk result (λ parts. parts.items ≡ map Part.Says (piece_lines id pid blocks wanted)) }
+    {
+        match wanted {
+            Wanted::Chunk(_) => self.say(Line::Proto(id)),
+            Wanted::Block(block) => {
+                if block == 0 {
+                    list_of(self.alloc, [step(Stage::StateTaken, pid)])
+                } else {
+                    self.say(Line::Proto(id))
+                }
+            }
+            Wanted::Nothing => {
+                let last = step(Stage::MemoryTaken, pid);
+                if blocks == 0 {
+                    list_of(self.alloc, [step(Stage::StateTaken, pid), last])
+                } else {
+                    list_of(self.alloc, [last])
+                }
+            }
+        }
+    }
+
+    /// Whether a process or a server is on its way here from a machine.
     fn expects(&self, pid: Pid, machine: u8) -> bool
         ensures { result ≡ is_expected (incoming_of (at self.now.records pid)) machine }
     {
@@ -180,14 +229,16 @@ impl Kernel {
         self.say_and_route(said, pull)
     }
 
-    /// Lets a process go on that has come: it is served, and what was held is handled first; whoever asked for the move is told.
-    pub(crate) fn restart(&mut self, pid: Pid) -> Result<Vec<Part>, NoMemory>
-        requires { IsSuch MayRestart (incoming_of (at self.old.records pid)) }
-        ensures { Answers result self.new (bind (incoming_of (at self.old.records pid)) (restarts (kernel_state self.old) pid)) }
+    /// Lets go on what has come: a process is served, and what was held is handled first; whoever asked for the move is told.
+    pub(crate) fn restart(&mut self, boot: &Boot, pid: Pid) -> Result<Vec<Part>, NoMemory>
+        requires { IsSuch (MayRestart boot.now) (incoming_of (at self.old.records pid)) }
+        ensures { Answers result self.new (bind (incoming_of (at self.old.records pid)) (restarts boot.now (kernel_state self.old) pid)) }
     {
         let arriving = self.records.take_incoming(pid);
         let asker = arriving.asker();
-        let going = arriving.restart();
+        let machines = boot.machines.len() as u8;
+        let images = boot.images.len() as u16;
+        let going = arriving.restart(machines, images)?;
         let said = Line::Migration {
             step: Stage::Restarted,
             pid,
@@ -197,38 +248,19 @@ impl Kernel {
         Ok(parts)
     }
 
-    /// Sets a process into its place, at the ring's back, and the messages that were held for it before the inbox.
-    pub(crate) fn go_on(&mut self, pid: Pid, going: (Process, Vec<Message>)) -> Result<(), NoMemory>
+    /// Sets what goes on into its place, a process at the ring's back, and the messages that were held for it before the inbox.
+    pub(crate) fn go_on(
+        &mut self,
+        pid: Pid,
+        going: (Resident, Vec<Message>),
+    ) -> Result<(), NoMemory>
         requires { HasPlace self.old.records pid }
         ensures { OnOk result (IsIn self.new (record (kernel_state self.old)
-            { records = with_record (at self.old.records) pid (Here going.0); ring = self.old.ring ++ pid ∷ []; inbox = going.1.items ++ self.old.inbox })) }
+            { records = with_record (at self.old.records) pid (Here going.0); ring = ring_with self.old.ring pid going.0; inbox = going.1.items ++ self.old.inbox })) }
     {
-        let (process, held) = going;
-        self.records.put_back(pid, Record::Here(process));
-        self.ring.push(pid)?;
+        let (resident, held) = going;
+        join(&mut self.ring, pid, &resident)?;
+        self.records.put_back(pid, Record::Here(resident));
         put_before(self.alloc, held, &mut self.inbox)
-    }
-}
-
-/// What is said of a piece, by what is asked for after it.
-fn piece_line(id: MsgId, pid: Pid, wanted: Wanted) -> Line
-    ensures { result ≡ piece_line id pid wanted }
-{
-    match wanted {
-        Wanted::Chunk(_) => Line::Proto(id),
-        Wanted::Block(block) => {
-            if block == 0 {
-                Line::Migration {
-                    step: Stage::StateTaken,
-                    pid,
-                }
-            } else {
-                Line::Proto(id)
-            }
-        }
-        Wanted::Nothing => Line::Migration {
-            step: Stage::MemoryTaken,
-            pid,
-        },
     }
 }

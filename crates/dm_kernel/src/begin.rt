@@ -1,17 +1,19 @@
 //! A machine as the boot file has it.
-ghost use Rattle.std.specs.Prelude.{◌≡◌, ◌<◌, ◌≤◌, IfOk, OnOk, length, slice_get, true};
+ghost use Rattle.std.specs.Prelude.{◌≡◌, ◌<◌, ◌≤◌, ◌==◌, if◌then◌else◌, IfOk, OnOk, length, slice_get, true};
 ghost use Rattle.dm_onekernel.specs.Boot.{IsValid, blocks_of_image, images_are_valid, slots_of};
 ghost use Rattle.dm_room.specs.Room.{HasRoom};
-ghost use Rattle.dm_kernel.specs.Begun.{begins_process, empty, opened, servers_of};
+ghost use Rattle.dm_kernel.specs.Begun.{bare, begins_process, empty, opened, with_servers};
 ghost use Rattle.dm_kernel.specs.Meets.{IsIn, kernel_state};
 
-use crate::kernel::{Kernel, Servers};
+use crate::kernel::Kernel;
 use crate::make::{child_of, image_of};
+use dm_link::{MANAGER, SWITCHBOARD};
 use dm_lists::Queue;
 use dm_memory::NoMemory;
 use dm_onekernel::{Boot, BootProcess};
 use dm_procman::ProcMan;
-use dm_records::Records;
+use dm_records::{Record, Records};
+use dm_resident::Resident;
 use dm_room::Room;
 use dm_switchboard::Switchboard;
 use std::alloc::Global;
@@ -36,9 +38,18 @@ impl Kernel {
         requires here { here < length boot.now.machines }
         ensures { IfOk result (λ k. IsIn k (empty boot.now here)) }
     {
+        let mut kernel = Kernel::bare(alloc, boot, here);
+        kernel.begin_servers(boot)?;
+        Ok(kernel)
+    }
+
+    /// The kernel of a machine of the boot file, without any process and without the servers. It takes no memory.
+    fn bare(alloc: Global, boot: &Boot, here: u8) -> Kernel
+        requires { here < length boot.now.machines }
+        ensures { IsIn result (bare boot.now here) }
+    {
         let machine = &boot.machines.as_slice()[usize::from(here)];
-        let servers = servers_of(alloc, boot, here)?;
-        Ok(Kernel {
+        Kernel {
             alloc,
             here,
             records: Records::new(alloc),
@@ -48,8 +59,29 @@ impl Kernel {
             sent: 0,
             room: Room::new(machine.slots, machine.blocks),
             over: None,
-            servers,
-        })
+        }
+    }
+
+    /// Begins the servers, if this is machine 0.
+    fn begin_servers(&mut self, boot: &Boot) -> Result<(), NoMemory>
+        requires { IsValid boot.now }
+        ensures { OnOk result (IsIn self.new (if self.old.here == 0 then with_servers boot.now (kernel_state self.old) else kernel_state self.old)) }
+    {
+        if self.here != 0 {
+            return Ok(());
+        }
+        self.place_servers(boot)
+    }
+
+    /// The servers are here.
+    fn place_servers(&mut self, boot: &Boot) -> Result<(), NoMemory>
+        requires { IsValid boot.now }
+        ensures { OnOk result (IsIn self.new (with_servers boot.now (kernel_state self.old))) }
+    {
+        let board = Resident::Board(Switchboard::new(self.alloc));
+        self.set_known(SWITCHBOARD, Record::Here(board))?;
+        let manager = Resident::Manager(ProcMan::new(self.alloc, boot)?);
+        self.set_known(MANAGER, Record::Here(manager))
     }
 
     /// Begins a process of the boot file, if this is its home.
@@ -75,18 +107,4 @@ impl Kernel {
         )?;
         self.stand(process.pid, child)
     }
-}
-
-/// The servers, which are on machine 0.
-fn servers_of(alloc: Global, boot: &Boot, here: u8) -> Result<Option<Servers>, NoMemory>
-    requires { IsValid boot.now }
-    ensures { IfOk result (λ servers. servers ≡ servers_of boot.now here) }
-{
-    if here != 0 {
-        return Ok(None);
-    }
-    Ok(Some(Servers {
-        board: Switchboard::new(alloc),
-        manager: ProcMan::new(alloc, boot)?,
-    }))
 }

@@ -1,8 +1,8 @@
 //! How a migration is called off where the process was to come.
+ghost use Rattle.dm_migrate.specs.Rooms.{HasTakenBy};
 ghost use Rattle.std.specs.Prelude.{◌≡◌, ◌<◌, ◌++◌, ◌∷◌, [], IfOk, length, map};
 ghost use Rattle.dm_records.specs.Records.{at, incoming_of};
 ghost use Rattle.dm_migrate.specs.Arrival.{Arrival};
-ghost use Rattle.dm_room.specs.Room.{HasTaken};
 ghost use Rattle.dm_kernel.specs.Coming.{calls_arriving_off, calls_off};
 ghost use Rattle.dm_kernel.specs.May.{IsSuch, MayCallOff};
 ghost use Rattle.dm_kernel.specs.Meets.{Answers, kernel_state};
@@ -15,10 +15,11 @@ use dm_line::line::Line;
 use dm_link::{Addr, Pid};
 use dm_memory::NoMemory;
 use dm_message::Message;
+use dm_migrate::release;
 use dm_records::Record;
 
 impl Kernel {
-    /// Calls off the migration of a process that is on its way here, if not all of it has come: what was held for it goes back to
+    /// Calls off the migration of what is on its way here, if not all of it has come: what was held for it goes back to
     /// the machine that it was to leave, and that one's kernel is told. Answers what the machine says and routes, in order.
     pub fn call_off(&mut self, pid: Pid) -> Result<Vec<Part>, NoMemory>
         requires { MayCallOff (kernel_state self.old) pid }
@@ -33,7 +34,7 @@ impl Kernel {
     /// Calls off the migration of a process that is on its way here, if not all of it has come.
     fn call_arriving_off(&mut self, pid: Pid) -> Result<Vec<Part>, NoMemory>
         requires sent { self.old.sent < u32.MAX }
-        requires process { IsSuch (λ (a : Arrival). HasTaken self.old.room a.blocks × (length a.held < u32.MAX)) (incoming_of (at self.old.records pid)) }
+        requires process { IsSuch (λ (a : Arrival). HasTakenBy self.old.room a.blocks × (length a.held < u32.MAX)) (incoming_of (at self.old.records pid)) }
         ensures { Answers result self.new (calls_arriving_off (kernel_state self.old) pid (incoming_of (at self.old.records pid))) }
     {
         let arriving = self.records.take_incoming(pid);
@@ -41,7 +42,7 @@ impl Kernel {
         match arriving.call_off() {
             Ok((messages, call_off)) => {
                 self.records.put_back(pid, Record::Forward { at, moves });
-                self.room.release(blocks);
+                release(&mut self.room, blocks);
                 let call_off = self.send(Addr::of_kernel(at), call_off);
                 self.say_called(pid, messages, call_off)
             }

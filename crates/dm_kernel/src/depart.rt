@@ -1,14 +1,17 @@
-//! What a machine's kernel does where a process leaves it.
+//! What a machine's kernel does where a process or a server leaves it.
+ghost use Rattle.dm_resident.specs.Residents.{memory_of, name_of};
+ghost use Rattle.dm_resident.specs.Packed.{state_of};
+ghost use Rattle.dm_resident.specs.declared.Resident.TheVariants as resident;
 ghost use Rattle.std.specs.Prelude.{◌≡◌, ◌≢◌, ◌<◌, ◌+◌, ◌++◌, ◌∷◌, [], IfOk, IfSome, IsSome, OnOk, length, map};
 ghost use Rattle.dm_records.specs.Records.{at, frozen_of, here_of};
 ghost use Rattle.dm_migrate.specs.Departure.{CanMove, Departure};
-ghost use Rattle.dm_migrate.specs.Pieces.{HasBlock, HasChunk, block_of, chunk_of, state_of};
+ghost use Rattle.dm_migrate.specs.Pieces.{HasBlock, HasChunk, block_of, chunk_of};
 ghost use Rattle.dm_onekernel.specs.Options.{bind};
-ghost use Rattle.dm_kernel.specs.Departing.{asked_to_move, freezing, gives_piece, holds_leaving, leaves, migrates, stays, takes_step, tells_asker, with_frozen};
-ghost use Rattle.dm_kernel.specs.May.{IsSuch, MayLeave};
+ghost use Rattle.dm_kernel.specs.Departing.{asked_to_move, freezing, gives_piece, holds_leaving, leaves, migrates, stays, takes_step, tells_asker, with_frozen, tells_of};
+ghost use Rattle.dm_kernel.specs.May.{IsSuch, MayLeave, MayFreeze};
 ghost use Rattle.dm_kernel.specs.Meets.{Answers, kernel_state};
-ghost use Rattle.dm_kernel.specs.Served.{CanFreeze, IsHere};
-ghost use Rattle.dm_kernel.specs.State.{preceded, turned, with_sent};
+ghost use Rattle.dm_kernel.specs.Served.{IsHere};
+ghost use Rattle.dm_kernel.specs.State.{preceded, turned, with_sent, process_in};
 ghost use Rattle.dm_line.specs.declared.line.Line.TheVariants as line_;
 ghost use Rattle.dm_line.specs.declared.line.Stage.TheVariants as stage_;
 
@@ -19,16 +22,17 @@ use dm_line::line::{Line, Stage};
 use dm_link::{Addr, MACHINES, Pid};
 use dm_memory::{NoMemory, Parcel, list_of, push};
 use dm_message::{Asker, Message, Outcome, What};
-use dm_migrate::{asker_of, freeze, moved_answer, request_of};
+use dm_migrate::{asker_of, freeze, moved_answer, release, request_of};
 use dm_onekernel::Label;
 use dm_process::Process;
 use dm_records::Record;
+use dm_resident::Resident;
 use std::alloc::Global;
 
 impl Kernel {
-    /// Lets a process leave for a machine, if it isn't there.
+    /// Lets a process or a server leave for a machine, if it isn't there.
     pub(crate) fn migrate(&mut self, message: &Message, to: u8) -> Result<Vec<Part>, NoMemory>
-        requires process { IsHere (CanFreeze (kernel_state self.old)) (at self.old.records message.now.to.pid) }
+        requires resident { IsSuch (MayFreeze (kernel_state self.old)) (here_of (at self.old.records message.now.to.pid)) }
         ensures answers { Answers result self.new (bind (here_of (at self.old.records message.now.to.pid))
             (λ x. migrates (kernel_state self.old) message.now x to)) }
         ensures whole { OnOk result (to ≢ self.old.here → IfSome (here_of (at self.old.records message.now.to.pid)) CanMove) }
@@ -43,24 +47,41 @@ impl Kernel {
     /// Lets a process leave for a machine, as it is asked, and tells who asked how that ended; at once, where the process is
     /// there already.
     pub(crate) fn move_asked(&mut self, message: &Message, to: u8) -> Result<Vec<Part>, NoMemory>
-        requires process { IsHere (CanFreeze (kernel_state self.old)) (at self.old.records message.now.to.pid) }
-        ensures answers { Answers result self.new (bind (here_of (at self.old.records message.now.to.pid))
+        requires process { IsHere (λ x. MayFreeze (kernel_state self.old) (resident.Process x)) (at self.old.records message.now.to.pid) }
+        ensures answers { Answers result self.new (bind (process_in (at self.old.records message.now.to.pid))
             (λ x. asked_to_move (kernel_state self.old) message.now x to)) }
         ensures whole { OnOk result (to ≢ self.old.here → IfSome (here_of (at self.old.records message.now.to.pid)) CanMove) }
     {
         let asked = Line::Label(Label::Asked { id: message.id });
         let asker = Some(asker_of(message));
         if to == self.here {
-            let process = self.records.here(message.to.pid).unwrap();
-            self.say_and_tell(asked, process, Outcome::Done, asker)
+            let resident = self.records.here(message.to.pid).unwrap();
+            self.say_and_tell(asked, resident, Outcome::Done, asker)
         } else {
             let parts = self.say(asked)?;
             self.freeze(message.to.pid, to, asker, parts)
         }
     }
 
-    /// The parts of a turn that says one line, and tells who asked for the move of a process how it ended, if somebody asked.
+    /// The parts of a turn that says one line, and tells who asked for the move of a process how it ended, if somebody asked; nobody
+    /// asks for that of a server.
     pub(crate) fn say_and_tell(
+        &self,
+        line: Line,
+        resident: &Resident,
+        outcome: Outcome,
+        asker: Option<Asker>,
+    ) -> Result<Vec<Part>, NoMemory>
+        ensures { IfOk result (λ parts. parts.items ≡ Part.Says line ∷ tells_of self.now.here resident.now outcome asker) }
+    {
+        match resident {
+            Resident::Process(process) => self.tell(line, process, outcome, asker),
+            Resident::Board(_) | Resident::Manager(_) => self.say(line),
+        }
+    }
+
+    /// The parts of a turn that says one line, and tells who asked for the move of a process how it ended, if somebody asked.
+    fn tell(
         &self,
         line: Line,
         process: &Process,
@@ -74,7 +95,7 @@ impl Kernel {
         Ok(parts)
     }
 
-    /// Freezes a process that is to leave for a machine, and keeps who waits to hear how that ends: it isn't served any more, and
+    /// Freezes what is to leave for a machine, and keeps who waits to hear how that ends: a process isn't served any more, and
     /// that machine is asked, behind what is said so far.
     fn freeze(
         &mut self,
@@ -83,27 +104,27 @@ impl Kernel {
         asker: Option<Asker>,
         parts: Vec<Part>,
     ) -> Result<Vec<Part>, NoMemory>
-        requires process { IsHere (CanFreeze (kernel_state self.old)) (at self.old.records pid) }
+        requires resident { IsSuch (MayFreeze (kernel_state self.old)) (here_of (at self.old.records pid)) }
         ensures answers { Answers result self.new (bind (here_of (at self.old.records pid))
             (λ x. turned (with_sent (with_frozen (kernel_state self.old) pid x to asker)) (parts.items ++ freezing (kernel_state self.old) pid x to asker))) }
         ensures whole { OnOk result (IfSome (here_of (at self.old.records pid)) CanMove) }
     {
-        let process = self.records.take_here(pid);
-        match freeze(self.alloc, process, to, asker) {
+        let resident = self.records.take_here(pid);
+        match freeze(self.alloc, resident, to, asker) {
             Ok((leaving, ask)) => {
                 self.records.put_back(pid, Record::Frozen(leaving));
                 remove(&mut self.ring, pid);
                 let ask = self.send(Addr::of_kernel(to), ask);
                 self.say_asked(pid, ask, parts)
             }
-            Err((process, e)) => {
-                self.records.put_back(pid, Record::Here(process));
+            Err((resident, e)) => {
+                self.records.put_back(pid, Record::Here(resident));
                 Err(e)
             }
         }
     }
 
-    /// What is said of a process that is frozen, and the ask that goes out, behind what is said so far.
+    /// What is said of what is frozen, and the ask that goes out, behind what is said so far.
     fn say_asked(&self, pid: Pid, ask: Message, mut parts: Vec<Part>) -> Result<Vec<Part>, NoMemory>
         ensures { IfOk result (λ said. said.items ≡ parts.items ++ takes_step stage_.Frozen pid ∷ takes_step stage_.Asked pid ∷ Part.Routes ask ∷ []) }
     {
@@ -112,7 +133,7 @@ impl Kernel {
         Ok(parts)
     }
 
-    /// Keeps a message for a process that leaves.
+    /// Keeps a message for what leaves.
     pub(crate) fn hold_leaving(&mut self, message: Parcel<Message>) -> Result<Vec<Part>, NoMemory>
         requires { IsSome (frozen_of (at self.old.records message.to.pid)) }
         ensures { Answers result self.new (bind (frozen_of (at self.old.records message.to.pid)) (λ d. holds_leaving (kernel_state self.old) message d)) }
@@ -126,7 +147,7 @@ impl Kernel {
         }
     }
 
-    /// Lets a process that was to leave stay: it is served again, and what was held is handled first; whoever asked for the move
+    /// Lets stay what was to leave: a process is served again, and what was held is handled first; whoever asked for the move
     /// is told.
     pub(crate) fn stay(&mut self, pid: Pid) -> Result<Vec<Part>, NoMemory>
         requires { IsSome (frozen_of (at self.old.records pid)) }
@@ -135,7 +156,7 @@ impl Kernel {
         let leaving = self.records.frozen(pid).unwrap();
         let parts = self.say_and_tell(
             Line::Stays(pid),
-            leaving.process(),
+            leaving.resident(),
             Outcome::Stayed,
             leaving.asker(),
         )?;
@@ -144,7 +165,7 @@ impl Kernel {
         Ok(parts)
     }
 
-    /// Lets a process that was to leave stay, where the other machine has called its migration off: that one sends on to this one from
+    /// Lets stay what was to leave, where the other machine has called its migration off: that one sends on to this one from
     /// now on.
     pub(crate) fn stay_behind(&mut self, message: &Message, pid: Pid) -> Result<Vec<Part>, NoMemory>
         requires leaves { IsSome (frozen_of (at self.old.records pid)) }
@@ -156,7 +177,7 @@ impl Kernel {
         self.stay(pid)
     }
 
-    /// Gives a chunk of the state bytes of a process that leaves.
+    /// Gives a chunk of the state bytes of what leaves.
     pub(crate) fn give_chunk(
         &mut self,
         message: &Message,
@@ -164,9 +185,9 @@ impl Kernel {
         chunk: u32,
     ) -> Result<Vec<Part>, NoMemory>
         requires sent { self.old.sent < u32.MAX }
-        requires chunk { IsSuch (λ (d : Departure). HasChunk (state_of d.process) chunk) (frozen_of (at self.old.records pid)) }
+        requires chunk { IsSuch (λ (d : Departure). HasChunk (state_of d.resident) chunk) (frozen_of (at self.old.records pid)) }
         ensures { Answers result self.new (bind (frozen_of (at self.old.records pid))
-            (λ d. gives_piece (kernel_state self.old) message.now (chunk_of d.process.pid (state_of d.process) chunk))) }
+            (λ d. gives_piece (kernel_state self.old) message.now (chunk_of (name_of d.resident) (state_of d.resident) chunk))) }
     {
         let piece = self.records.frozen(pid).unwrap().chunk(chunk);
         self.give(message, piece)
@@ -180,9 +201,9 @@ impl Kernel {
         block: u8,
     ) -> Result<Vec<Part>, NoMemory>
         requires sent { self.old.sent < u32.MAX }
-        requires block { IsSuch (λ (d : Departure). HasBlock d.process.memory block) (frozen_of (at self.old.records pid)) }
+        requires block { IsSuch (λ (d : Departure). HasBlock (memory_of d.resident) block) (frozen_of (at self.old.records pid)) }
         ensures { Answers result self.new (bind (frozen_of (at self.old.records pid))
-            (λ d. gives_piece (kernel_state self.old) message.now (block_of d.process.pid d.process.memory block))) }
+            (λ d. gives_piece (kernel_state self.old) message.now (block_of (name_of d.resident) (memory_of d.resident) block))) }
     {
         let piece = self.records.frozen(pid).unwrap().block(block);
         self.give(message, piece)
@@ -197,7 +218,7 @@ impl Kernel {
         self.say_and_route(Line::Proto(message.id), piece)
     }
 
-    /// Lets a process go, of which all has come to the other machine: what waits for it goes on.
+    /// Lets go a process or a server of which all has come to the other machine: what waits for it goes on.
     pub(crate) fn let_go(&mut self, pid: Pid) -> Result<Vec<Part>, NoMemory>
         requires sent { self.old.sent < u32.MAX }
         requires process { IsSuch (MayLeave self.old.room) (frozen_of (at self.old.records pid)) }
@@ -205,10 +226,10 @@ impl Kernel {
     {
         let leaving = self.records.take_frozen(pid);
         let to = leaving.to();
-        let moves = leaving.process().moves + 1;
+        let moves = leaving.resident().moves() + 1;
         self.records
             .put_back(pid, Record::Forward { at: to, moves });
-        self.room.release(leaving.process().memory.blocks());
+        release(&mut self.room, leaving.resident().blocks());
         match leaving.forward_all() {
             Ok(messages) => {
                 let restart = self.send(Addr::of_kernel(to), What::Restart { pid });
@@ -218,7 +239,7 @@ impl Kernel {
         }
     }
 
-    /// What is said of a process that has gone, with the messages that go on to it and the one that lets it go on.
+    /// What is said of what has gone, with the messages that go on to it and the one that lets it go on.
     fn say_left(
         &self,
         pid: Pid,
@@ -260,7 +281,7 @@ fn tell_asker(
 }
 
 /// What is said of a step of a migration.
-fn step(step: Stage, pid: Pid) -> Part
+pub(crate) fn step(step: Stage, pid: Pid) -> Part
     ensures { result ≡ takes_step step pid }
 {
     Part::Says(Line::Migration { step, pid })

@@ -1,6 +1,6 @@
 //! How a process ends: it leaves the ring, its slot and its blocks, its queue goes message by message, and it is forgotten.
 ghost use Rattle.std.specs.Prelude.{◌≡◌, ◌++◌, OnOk};
-ghost use Rattle.dm_records.specs.Records.{at, here_of};
+ghost use Rattle.dm_records.specs.Records.{at};
 ghost use Rattle.dm_onekernel.specs.Options.{bind};
 ghost use Rattle.dm_process.specs.declared.process.Process.{Process};
 ghost use Rattle.std.specs.Prelude.{Some};
@@ -8,7 +8,7 @@ ghost use Rattle.dm_kernel.specs.Meets.{Answers, IsIn, kernel_state};
 ghost use Rattle.dm_kernel.specs.Serve.{ends};
 ghost use Rattle.dm_kernel.specs.Served.{HasPlace, IsHere};
 ghost use Rattle.dm_kernel.specs.Burying.{after_end, ends_with};
-ghost use Rattle.dm_kernel.specs.State.{drops};
+ghost use Rattle.dm_kernel.specs.State.{drops, process_in};
 
 use crate::kernel::Kernel;
 use crate::part::Part;
@@ -25,7 +25,7 @@ impl Kernel {
     /// Ends a process that has executed so many instructions.
     pub(crate) fn end(&mut self, pid: Pid, count: u32, why: Why) -> Result<Vec<Part>, NoMemory>
         requires { IsHere (HasPlace (kernel_state self.old)) (at self.old.records pid) }
-        ensures { Answers result self.new (bind (here_of (at self.old.records pid)) (λ x. ends (kernel_state self.old) pid count x why)) }
+        ensures { Answers result self.new (bind (process_in (at self.old.records pid)) (λ x. ends (kernel_state self.old) pid count x why)) }
     {
         let ran = Part::Says(Line::Label(Label::Ran { pid, count }));
         let end = Part::Says(Line::Label(Label::End { pid, why }));
@@ -42,11 +42,12 @@ impl Kernel {
         parts: &mut Vec<Part>,
     ) -> Result<(), NoMemory>
         requires { IsHere (HasPlace (kernel_state self.old)) (at self.old.records pid) }
-        ensures state { (x : Process) → here_of (at self.old.records pid) ≡ Some x → OnOk result (IsIn self.new (after_end (kernel_state self.old) pid x why)) }
-        ensures parts { (x : Process) → here_of (at self.old.records pid) ≡ Some x → OnOk result (parts.new.items ≡ parts.old.items ++ ends_with (kernel_state self.old) pid x) }
+        ensures state { (x : Process) → process_in (at self.old.records pid) ≡ Some x → OnOk result (IsIn self.new (after_end (kernel_state self.old) pid x why)) }
+        ensures parts { (x : Process) → process_in (at self.old.records pid) ≡ Some x → OnOk result (parts.new.items ≡ parts.old.items ++ ends_with (kernel_state self.old) pid x) }
     {
         let predecessors = self.records.predecessors(pid);
-        let process = self.records.remove(pid).unwrap().into_here().unwrap();
+        let resident = self.records.remove(pid).unwrap().into_here().unwrap();
+        let process = resident.into_process().unwrap();
         self.over = Some((pid, why));
         self.room.release(process.memory.blocks());
         remove(&mut self.ring, pid);

@@ -1,6 +1,8 @@
 //! How a message follows a process that has gone on, and how links follow it.
-ghost use Rattle.std.specs.Prelude.{◌≡◌, ◌<◌, ◌+◌, ◌^◌, ◌∷◌, [], IfOk, IfSome, IsSome, length};
-ghost use Rattle.dm_records.specs.Records.{at, here_of};
+ghost use Rattle.dm_kernel.specs.State.{board_in, manager_in, process_in};
+ghost use Rattle.dm_kernel.specs.May.{IsSuch};
+ghost use Rattle.std.specs.Prelude.{◌≡◌, ◌<◌, ◌+◌, ◌^◌, ◌∷◌, [], IfOk, IsSome, length};
+ghost use Rattle.dm_records.specs.Records.{at};
 ghost use Rattle.dm_onekernel.specs.Options.{bind};
 ghost use Rattle.dm_kernel.specs.Following.{board_follows, forwards, manager_follows, process_follows};
 ghost use Rattle.dm_kernel.specs.Meets.{Answers, kernel_state};
@@ -8,6 +10,7 @@ ghost use Rattle.dm_line.specs.declared.line.Line.TheVariants as line_;
 
 use crate::kernel::Kernel;
 use crate::part::Part;
+use crate::residents::{board_mut, manager_mut, process_mut};
 use dm_line::line::Line;
 use dm_link::{Addr, Placeless};
 use dm_linkupdate::{apply, notice};
@@ -46,11 +49,11 @@ impl Kernel {
 
     /// Lets the links of a process, and its data move, follow the process that an update names.
     pub(crate) fn follow(&mut self, message: &Message, about: Addr) -> Result<Vec<Part>, NoMemory>
-        requires { IsSome (here_of (at self.old.records message.now.to.pid)) }
-        ensures { Answers result self.new (bind (here_of (at self.old.records message.now.to.pid))
+        requires { IsSome (process_in (at self.old.records message.now.to.pid)) }
+        ensures { Answers result self.new (bind (process_in (at self.old.records message.now.to.pid))
             (λ x. process_follows (kernel_state self.old) message.now x about)) }
     {
-        let process = self.records.here_mut(message.to.pid).unwrap();
+        let process = process_mut(&mut self.records, message.to.pid).unwrap();
         let count = apply(process, about.pid, about.at, about.moves);
         self.say_updated(message.id, u32::from(count))
     }
@@ -61,12 +64,11 @@ impl Kernel {
         message: &Message,
         about: Addr,
     ) -> Result<Vec<Part>, NoMemory>
-        requires servers { IsSome self.old.servers }
-        requires few { IfSome self.old.servers (λ v. length v.board.names < 2 ^ 31) }
-        ensures { Answers result self.new (bind self.old.servers (λ v. board_follows (kernel_state self.old) message.now v about)) }
+        requires few { IsSuch (λ v. length v.names < 2 ^ 31) (board_in (at self.old.records message.now.to.pid)) }
+        ensures { Answers result self.new (bind (board_in (at self.old.records message.now.to.pid)) (λ v. board_follows (kernel_state self.old) message.now v about)) }
     {
-        let servers = self.servers.as_mut().unwrap();
-        let count = servers.board.retarget(about.pid, about.at, about.moves);
+        let board = board_mut(&mut self.records, message.to.pid).unwrap();
+        let count = board.retarget(about.pid, about.at, about.moves);
         self.say_updated(message.id, count)
     }
 
@@ -76,12 +78,11 @@ impl Kernel {
         message: &Message,
         about: Addr,
     ) -> Result<Vec<Part>, NoMemory>
-        requires servers { IsSome self.old.servers }
-        requires few { IfSome self.old.servers (λ v. length v.manager.children + length v.manager.pending < 2 ^ 31) }
-        ensures { Answers result self.new (bind self.old.servers (λ v. manager_follows (kernel_state self.old) message.now v about)) }
+        requires few { IsSuch (λ v. length v.children + length v.pending < 2 ^ 31) (manager_in (at self.old.records message.now.to.pid)) }
+        ensures { Answers result self.new (bind (manager_in (at self.old.records message.now.to.pid)) (λ v. manager_follows (kernel_state self.old) message.now v about)) }
     {
-        let servers = self.servers.as_mut().unwrap();
-        let count = servers.manager.retarget(about.pid, about.at, about.moves);
+        let manager = manager_mut(&mut self.records, message.to.pid).unwrap();
+        let count = manager.retarget(about.pid, about.at, about.moves);
         self.say_updated(message.id, count)
     }
 

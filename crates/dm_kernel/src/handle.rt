@@ -1,4 +1,6 @@
-//! How a message is handled: by what is known of its receiver, by who that is, and by its kind.
+//! How a message is handled: by what is known of its receiver, by what that is, and by its kind.
+ghost use Rattle.dm_resident.specs.declared.Resident.TheVariants as resident;
+ghost use Rattle.dm_kernel.specs.State.{process_in};
 ghost use Rattle.std.specs.Prelude.{◌≡◌, ◌<◌, IfSome, OnOk, Some, true};
 ghost use Rattle.dm_records.specs.Records.{at, here_of};
 ghost use Rattle.dm_records.specs.declared.record.Record.TheVariants.{Here};
@@ -7,19 +9,20 @@ ghost use Rattle.dm_migrate.specs.Departure.{CanMove};
 ghost use Rattle.dm_onekernel.specs.Boot.{images_are_valid};
 ghost use Rattle.dm_onekernel.specs.Options.{bind};
 ghost use Rattle.dm_kernel.specs.Carried.{FreezesReceiverWhole, KnownIsWhole, WhereSentOff};
-ghost use Rattle.dm_kernel.specs.Handle.{ended_handles, handles, here_handles, process_handles, unknown_handles};
-ghost use Rattle.dm_kernel.specs.May.{FitsEnded, FitsKnown, FitsUnknown, MayAct, MayHandle};
+ghost use Rattle.dm_kernel.specs.Handle.{ended_handles, handles, here_handles, process_handles};
+ghost use Rattle.dm_kernel.specs.May.{FitsEnded, FitsKnown, MayAct, MayHandle};
 ghost use Rattle.dm_kernel.specs.Meets.{Answers, kernel_state};
 ghost use Rattle.dm_kernel.specs.Served.{Handles, IsHere};
 
 use crate::kernel::Kernel;
 use crate::part::Part;
 use dm_line::line::Line;
-use dm_link::{MACHINES, MANAGER, SWITCHBOARD};
+use dm_link::MACHINES;
 use dm_memory::{NoMemory, Parcel};
 use dm_message::{Message, What};
 use dm_onekernel::Boot;
 use dm_records::Record;
+use dm_resident::Resident;
 
 impl Kernel {
     /// Handles a message for the machine's kernel, a server or a process.
@@ -31,7 +34,7 @@ impl Kernel {
         requires may { MayHandle boot.now (kernel_state self.old) message }
         requires images { images_are_valid boot.now.images ≡ true }
         requires here { self.old.here < MACHINES }
-        requires processes { (p : _) (x : _) → at self.old.records p ≡ Some (Here x) → MayAct (kernel_state self.old) p x }
+        requires processes { (p : _) (x : _) → at self.old.records p ≡ Some (Here (resident.Process x)) → MayAct (kernel_state self.old) p x }
         ensures answers { Answers result self.new (handles boot.now (kernel_state self.old) message) }
         ensures whole { OnOk result (FreezesReceiverWhole (kernel_state self.old) message) }
     {
@@ -42,18 +45,20 @@ impl Kernel {
         }
     }
 
-    /// Handles a message for a process or a server.
+    /// Handles a message for a process or a server, by what is known of it.
     fn for_process(&mut self, message: Parcel<Message>) -> Result<Vec<Part>, NoMemory>
         requires lawful { IsLawfulMessage message }
         requires here { self.old.here < MACHINES }
         requires fits { FitsKnown (kernel_state self.old) message (at self.old.records message.to.pid) }
-        requires acts { (x : _) → at self.old.records message.to.pid ≡ Some (Here x) → MayAct (kernel_state self.old) message.to.pid x }
+        requires acts { (x : _) → at self.old.records message.to.pid ≡ Some (Here (resident.Process x)) → MayAct (kernel_state self.old) message.to.pid x }
         ensures answers { Answers result self.new (process_handles (kernel_state self.old) message (at self.old.records message.to.pid)) }
         ensures whole { OnOk result (KnownIsWhole self.old.here message.what (at self.old.records message.to.pid)) }
     {
         match self.records.get(message.get().to.pid) {
-            None => self.for_unknown(message.get()),
-            Some(Record::Here(_)) => self.for_here(message),
+            None => self.for_ended(message.get()),
+            Some(Record::Here(Resident::Process(_))) => self.for_here(message),
+            Some(Record::Here(Resident::Board(_))) => self.for_board(message.get()),
+            Some(Record::Here(Resident::Manager(_))) => self.for_manager(message.get()),
             Some(Record::Frozen(_)) => self.hold_leaving(message),
             Some(Record::Incoming(_)) => self.hold_arriving(message),
             Some(Record::Forward { at, moves }) => {
@@ -63,29 +68,12 @@ impl Kernel {
         }
     }
 
-    /// Handles a message whose receiver has no record: a server, which has none where it is, or a process that has ended.
-    fn for_unknown(&mut self, message: &Message) -> Result<Vec<Part>, NoMemory>
-        requires lawful { IsLawfulMessage message.now }
-        requires fits { FitsUnknown (kernel_state self.old) message.now }
-        requires here { self.old.here < MACHINES }
-        ensures { Answers result self.new (unknown_handles (kernel_state self.old) message.now) }
-    {
-        let to = message.to.pid;
-        if to == SWITCHBOARD {
-            self.for_board(message)
-        } else if to == MANAGER {
-            self.for_manager(message)
-        } else {
-            self.for_ended(message)
-        }
-    }
-
     /// Handles a message for a process that is here.
     fn for_here(&mut self, message: Parcel<Message>) -> Result<Vec<Part>, NoMemory>
         requires lawful { IsLawfulMessage message }
         requires here { self.old.here < MACHINES }
         requires process { IsHere (Handles (kernel_state self.old) message) (at self.old.records message.to.pid) }
-        ensures answers { Answers result self.new (bind (here_of (at self.old.records message.to.pid))
+        ensures answers { Answers result self.new (bind (process_in (at self.old.records message.to.pid))
             (λ x. here_handles (kernel_state self.old) message x message.what)) }
         ensures whole { OnOk result (WhereSentOff self.old.here message.what (IfSome (here_of (at self.old.records message.to.pid)) CanMove)) }
     {

@@ -5,11 +5,9 @@ use dm_memory::Parcel;
 use dm_message::Message;
 use dm_migrate::{Arriving, Leaving};
 use dm_onekernel::Why;
-use dm_process::Process;
-use dm_procman::ProcMan;
 use dm_records::Records;
+use dm_resident::Resident;
 use dm_room::Room;
-use dm_switchboard::Switchboard;
 use std::alloc::Global;
 
 /// The kernel of a machine.
@@ -18,8 +16,8 @@ pub struct Kernel {
     pub(crate) alloc: Global,
     /// The machine's number, 0 to 15.
     pub(crate) here: u8,
-    /// What is known of each process.
-    pub(crate) records: Records<Process, Leaving, Arriving>,
+    /// What is known of each process and of the servers.
+    pub(crate) records: Records<Resident, Leaving, Arriving>,
     /// The processes that are here, in the order in which they are served.
     pub(crate) ring: Queue<Pid>,
     /// The messages that have come and wait to be handled.
@@ -32,13 +30,4 @@ pub struct Kernel {
     pub(crate) room: Room,
     /// The process that ended in the last turn, and why.
     pub(crate) over: Option<(Pid, Why)>,
-    /// The servers, on machine 0.
-    pub(crate) servers: Option<Servers>,
-}
-
-/// The switchboard and the process manager (1977).
-#[derive(Drop)]
-pub struct Servers {
-    pub(crate) board: Switchboard,
-    pub(crate) manager: ProcMan,
 }

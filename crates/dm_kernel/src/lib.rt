@@ -17,6 +17,7 @@ mod make;
 mod own;
 pub mod part;
 mod read;
+mod residents;
 mod ring;
 pub mod run;
 mod runnable;
@@ -26,7 +27,7 @@ mod service;
 mod turn;
 
 pub use dm_memory::NoMemory;
-pub use kernel::{Kernel, Servers};
+pub use kernel::Kernel;
 pub use law::{
     calls_off_lawfully, machines_open_lawfully, moves_are_asked_lawfully, turns_are_lawful,
 };

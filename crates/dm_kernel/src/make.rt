@@ -1,4 +1,5 @@
 //! How a process is made of an image.
+ghost use Rattle.dm_resident.specs.declared.Resident.TheVariants as resident;
 ghost use Rattle.std.specs.Prelude.{◌≡◌, ◌+◌, ◌<◌, ◌≤◌, ◌⊎◌, [], ◌∷◌, ◌++◌, IfOk, OnOk, Some, length, slice_get, true};
 ghost use Rattle.dm_records.specs.Records.{at, with_record};
 ghost use Rattle.dm_records.specs.declared.record.Record.TheVariants.{Here};
@@ -26,11 +27,12 @@ use dm_migrate::{Arriving, Ask, Leaving};
 use dm_onekernel::{Boot, BootImage, Label, Why};
 use dm_process::Process;
 use dm_records::Record;
+use dm_resident::Resident;
 use dm_room::Lacks;
 use std::alloc::Global;
 
 impl Kernel {
-    /// Handles a message for the machine's kernel: it makes a process, lets one leave or come, or forgets one.
+    /// Handles a message for the machine's kernel: it makes a process, lets one or a server leave or come, or forgets one.
     pub(crate) fn for_kernel(
         &mut self,
         boot: &Boot,
@@ -73,7 +75,7 @@ impl Kernel {
             What::PullBlock { pid, block } => self.give_block(message, *pid, *block),
             What::Memory { pid, block, bytes } => { self.take_block(message, *pid, *block, bytes) }
             What::AllTaken { pid } => self.let_go(*pid),
-            What::Restart { pid } => self.restart(*pid),
+            What::Restart { pid } => self.restart(boot, *pid),
             What::CallOff { pid } => self.stay_behind(message, *pid),
             What::Bury { pid } => self.bury(message, *pid),
             // No other kind is sent to a kernel: what a message must fit says so.
@@ -119,19 +121,19 @@ impl Kernel {
     pub(crate) fn stand(&mut self, pid: Pid, process: Process) -> Result<(), NoMemory>
         requires { self.old.made < u32.MAX }
         ensures { OnOk result (IsIn self.new (record (kernel_state self.old)
-            { records = with_record (at self.old.records) pid (Here process); ring = self.old.ring ++ pid ∷ []; made = self.old.made + 1 })) }
+            { records = with_record (at self.old.records) pid (Here (resident.Process process)); ring = self.old.ring ++ pid ∷ []; made = self.old.made + 1 })) }
     {
         self.ring.push(pid)?;
-        self.set_known(pid, Record::Here(process))?;
+        self.set_known(pid, Record::Here(Resident::Process(process)))?;
         self.made += 1;
         Ok(())
     }
 
-    /// Sets what is known of a process.
+    /// Sets what is known of a process or a server.
     pub(crate) fn set_known(
         &mut self,
         pid: Pid,
-        known: Record<Process, Leaving, Arriving>,
+        known: Record<Resident, Leaving, Arriving>,
     ) -> Result<(), NoMemory>
         ensures { OnOk result (IsIn self.new (with_known (kernel_state self.old) pid known)) }
     {

@@ -1,18 +1,18 @@
 //! What can be read of a kernel, and how a message comes to it.
-ghost use Rattle.std.specs.Prelude.{◌≡◌, ◌∷◌, ◌++◌, [], OnErr, OnOk};
-ghost use Rattle.std.specs.Option.{option_copied};
+ghost use Rattle.dm_kernel.specs.State.{manager_in};
+ghost use Rattle.dm_records.specs.Records.{at};
+ghost use Rattle.std.specs.Prelude.{◌≡◌, ◌∷◌, ◌++◌, [], OnErr, OnOk, is_some};
 
-use crate::kernel::{Kernel, Servers};
-use dm_link::Pid;
+use crate::kernel::Kernel;
+use crate::residents::manager;
+use dm_link::{MANAGER, Pid};
 use dm_lists::Queue;
 use dm_memory::{NoMemory, Parcel};
 use dm_message::Message;
 use dm_migrate::{Arriving, Leaving};
 use dm_onekernel::Why;
-use dm_process::Process;
-use dm_procman::ProcMan;
 use dm_records::Records;
-use dm_switchboard::Switchboard;
+use dm_resident::Resident;
 
 impl Kernel {
     /// The machine's number, 0 to 15.
@@ -22,8 +22,8 @@ impl Kernel {
         self.here
     }
 
-    /// What is known of each process.
-    pub fn records(&self) -> &Records<Process, Leaving, Arriving>
+    /// What is known of each process and of the servers.
+    pub fn records(&self) -> &Records<Resident, Leaving, Arriving>
         ensures { result.now ≡ self.now.records }
     {
         &self.records
@@ -50,11 +50,11 @@ impl Kernel {
         self.over
     }
 
-    /// The servers, on machine 0.
-    pub fn servers(&self) -> Option<&Servers>
-        ensures { option_copied result ≡ self.now.servers }
+    /// Whether the manager is here.
+    pub fn has_manager(&self) -> bool
+        ensures { result ≡ is_some (manager_in (at self.now.records MANAGER)) }
     {
-        self.servers.as_ref()
+        manager(&self.records).is_some()
     }
 
     /// A message comes, and waits behind the others.
@@ -64,21 +64,5 @@ impl Kernel {
     {
         self.inbox.push(message)?;
         Ok(())
-    }
-}
-
-impl Servers {
-    /// The switchboard.
-    pub fn board(&self) -> &Switchboard
-        ensures { result.now ≡ self.now.board }
-    {
-        &self.board
-    }
-
-    /// The process manager.
-    pub fn manager(&self) -> &ProcMan
-        ensures { result.now ≡ self.now.manager }
-    {
-        &self.manager
     }
 }

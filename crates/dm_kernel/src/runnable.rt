@@ -4,6 +4,7 @@ ghost use Rattle.dm_records.specs.Records.{at};
 ghost use Rattle.dm_kernel.specs.Turn.{first_runnable, known_is_runnable};
 
 use crate::kernel::Kernel;
+use crate::residents::process;
 use dm_link::Pid;
 
 impl Kernel {
@@ -23,7 +24,7 @@ impl Kernel {
     fn is_runnable(&self, pid: Pid) -> bool
         ensures { result ≡ known_is_runnable (at self.now.records pid) }
     {
-        match self.records.here(pid) {
+        match process(&self.records, pid) {
             Some(process) => process.is_runnable(),
             None => false,
         }

@@ -1,16 +1,17 @@
 //! How a process is served: it executes, or takes a message that it waits for.
 ghost use Rattle.std.specs.Prelude.{◌≡◌, ◌<◌, [], ◌∷◌, IfOk};
-ghost use Rattle.dm_records.specs.Records.{at, here_of};
+ghost use Rattle.dm_records.specs.Records.{at};
 ghost use Rattle.dm_onekernel.specs.Options.{bind};
 ghost use Rattle.dm_onekernel.specs.declared.label.Label.TheVariants as label_;
 ghost use Rattle.dm_process.specs.Mail.{first_on};
 ghost use Rattle.dm_kernel.specs.Meets.{Answers, kernel_state};
 ghost use Rattle.dm_kernel.specs.Serve.{called_with, completed_label, executes, processor_of, ran, receives, serves};
 ghost use Rattle.dm_kernel.specs.Served.{Executes, HasPlace, IsHere, Receives, Serves};
-ghost use Rattle.dm_kernel.specs.State.{says};
+ghost use Rattle.dm_kernel.specs.State.{says, process_in};
 
 use crate::kernel::Kernel;
 use crate::part::Part;
+use crate::residents::process_mut;
 use crate::run::{Halt, execute};
 use dm_line::line::Line;
 use dm_link::{MACHINES, Pid};
@@ -42,11 +43,11 @@ impl Kernel {
     fn run(&mut self, pid: Pid, quantum: u32) -> Result<Vec<Part>, NoMemory>
         requires here { self.old.here < MACHINES }
         requires process { IsHere (Executes (kernel_state self.old) pid) (at self.old.records pid) }
-        ensures { Answers result self.new (bind (here_of (at self.old.records pid))
+        ensures { Answers result self.new (bind (process_in (at self.old.records pid))
             (λ x. executes (kernel_state self.old) pid x (ran quantum (processor_of x)))) }
     {
         let here = self.here;
-        let process = self.records.here_mut(pid).unwrap();
+        let process = process_mut(&mut self.records, pid).unwrap();
         let (count, halt) = execute(&mut process.regs, &mut process.memory, quantum);
         match halt {
             Some(halt) => match halt {
@@ -69,7 +70,7 @@ impl Kernel {
         called: Called,
     ) -> Result<Vec<Part>, NoMemory>
         requires { IsHere (HasPlace (kernel_state self.old)) (at self.old.records pid) }
-        ensures { Answers result self.new (bind (here_of (at self.old.records pid)) (λ x. called_with (kernel_state self.old) pid count number x called)) }
+        ensures { Answers result self.new (bind (process_in (at self.old.records pid)) (λ x. called_with (kernel_state self.old) pid count number x called)) }
     {
         match called {
             Called::Replied(reply) => self.goes_on(pid, count, Label::Call { pid, number, reply }),
@@ -110,10 +111,10 @@ impl Kernel {
     /// Lets a process that waits take the message at a place of its queue, or refuses it that.
     fn receive(&mut self, pid: Pid, mask: u32, place: usize) -> Result<Vec<Part>, NoMemory>
         requires { IsHere (Receives (kernel_state self.old) pid mask place) (at self.old.records pid) }
-        ensures { Answers result self.new (bind (here_of (at self.old.records pid))
+        ensures { Answers result self.new (bind (process_in (at self.old.records pid))
             (λ x. receives (kernel_state self.old) pid x mask (first_on mask x.queue))) }
     {
-        let process = self.records.here_mut(pid).unwrap();
+        let process = process_mut(&mut self.records, pid).unwrap();
         let id = process.queue.at(place).id;
         let completed = complete_receive(process, place);
         self.completed(pid, id, completed)

@@ -1,7 +1,7 @@
 //! What a machine's kernel does with a message for a process, a row a function.
 ghost use Rattle.std.specs.Prelude.{◌≡◌, ◌<◌, [], ◌∷◌, IfOk, IsSome};
 ghost use Rattle.dm_datamove.specs.Serving.{IsRequest};
-ghost use Rattle.dm_records.specs.Records.{at, here_of};
+ghost use Rattle.dm_records.specs.Records.{at};
 ghost use Rattle.dm_message.specs.Lawful.{IsLawfulMessage};
 ghost use Rattle.dm_onekernel.specs.Options.{bind};
 ghost use Rattle.dm_onekernel.specs.declared.label.Label.TheVariants as label_;
@@ -10,10 +10,11 @@ ghost use Rattle.dm_line.specs.declared.line.Line.TheVariants as line_;
 ghost use Rattle.dm_kernel.specs.Handle.{answered, is_dropped, is_gone, killed, lands, queued, served_as};
 ghost use Rattle.dm_kernel.specs.Meets.{Answers, kernel_state};
 ghost use Rattle.dm_kernel.specs.Served.{AwaitsPiece, HasPlace, IsHere, OwnsPiece};
-ghost use Rattle.dm_kernel.specs.State.{says, turned, with_here};
+ghost use Rattle.dm_kernel.specs.State.{says, turned, with_here, process_in};
 
 use crate::kernel::Kernel;
 use crate::part::Part;
+use crate::residents::process_mut;
 use dm_datamove::{Landed, gone, land, serve};
 use dm_line::line::Line;
 use dm_link::MACHINES;
@@ -24,13 +25,13 @@ use dm_onekernel::{Label, Why};
 impl Kernel {
     /// Puts a message at the back of its receiver's queue.
     pub(crate) fn queue(&mut self, message: Parcel<Message>) -> Result<Vec<Part>, NoMemory>
-        requires { IsSome (here_of (at self.old.records message.to.pid)) }
-        ensures { Answers result self.new (bind (here_of (at self.old.records message.to.pid))
+        requires { IsSome (process_in (at self.old.records message.to.pid)) }
+        ensures { Answers result self.new (bind (process_in (at self.old.records message.to.pid))
             (λ x. turned (with_here (kernel_state self.old) message.to.pid (queued x message)) (Part.Says (line_.Queued message.id) ∷ []))) }
     {
         let message = message.into_inner();
         let id = message.id;
-        let process = self.records.here_mut(message.to.pid).unwrap();
+        let process = process_mut(&mut self.records, message.to.pid).unwrap();
         process.queue.push(message)?;
         self.say(Line::Queued(id))
     }
@@ -41,11 +42,11 @@ impl Kernel {
         message: &Message,
         stopped: bool,
     ) -> Result<Vec<Part>, NoMemory>
-        requires { IsSome (here_of (at self.old.records message.now.to.pid)) }
-        ensures { Answers result self.new (bind (here_of (at self.old.records message.now.to.pid))
+        requires { IsSome (process_in (at self.old.records message.now.to.pid)) }
+        ensures { Answers result self.new (bind (process_in (at self.old.records message.now.to.pid))
             (λ x. served_as (kernel_state self.old) message.now (record x { stopped = stopped }))) }
     {
-        let process = self.records.here_mut(message.to.pid).unwrap();
+        let process = process_mut(&mut self.records, message.to.pid).unwrap();
         process.stopped = stopped;
         self.say_served(message.id)
     }
@@ -53,7 +54,7 @@ impl Kernel {
     /// Ends a process that is to be killed.
     pub(crate) fn kill(&mut self, message: &Message) -> Result<Vec<Part>, NoMemory>
         requires { IsHere (HasPlace (kernel_state self.old)) (at self.old.records message.now.to.pid) }
-        ensures { Answers result self.new (bind (here_of (at self.old.records message.now.to.pid)) (λ x. killed (kernel_state self.old) message.now x)) }
+        ensures { Answers result self.new (bind (process_in (at self.old.records message.now.to.pid)) (λ x. killed (kernel_state self.old) message.now x)) }
     {
         let mut parts = self.say_served(message.id)?;
         self.end_behind(message.to.pid, Why::Killed, &mut parts)?;
@@ -65,10 +66,10 @@ impl Kernel {
         requires lawful { IsLawfulMessage message.now }
         requires here { self.old.here < MACHINES }
         requires owner { IsHere (OwnsPiece message.now) (at self.old.records message.now.to.pid) }
-        ensures { Answers result self.new (bind (here_of (at self.old.records message.now.to.pid)) (λ x. answered (kernel_state self.old) message.now x)) }
+        ensures { Answers result self.new (bind (process_in (at self.old.records message.now.to.pid)) (λ x. answered (kernel_state self.old) message.now x)) }
     {
         let here = self.here;
-        let process = self.records.here_mut(message.to.pid).unwrap();
+        let process = process_mut(&mut self.records, message.to.pid).unwrap();
         let answer = Parcel::new(self.alloc, serve(process, message, here))?;
         self.serve_and_route(message.id, answer)
     }
@@ -78,11 +79,11 @@ impl Kernel {
         requires lawful { IsLawfulMessage message.now }
         requires here { self.old.here < MACHINES }
         requires mover { IsHere (AwaitsPiece message.now) (at self.old.records message.now.to.pid) }
-        ensures { Answers result self.new (bind (here_of (at self.old.records message.now.to.pid))
+        ensures { Answers result self.new (bind (process_in (at self.old.records message.now.to.pid))
             (λ x. lands (kernel_state self.old) message.now (landing self.old.here x message.now.what x.status))) }
     {
         let here = self.here;
-        let process = self.records.here_mut(message.to.pid).unwrap();
+        let process = process_mut(&mut self.records, message.to.pid).unwrap();
         match land(process, message, here) {
             Landed::Next(request) => {
                 let request = Parcel::new(self.alloc, request)?;

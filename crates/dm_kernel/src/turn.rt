@@ -1,4 +1,5 @@
 //! A turn of the machine.
+ghost use Rattle.dm_resident.specs.declared.Resident.TheVariants as resident;
 ghost use Rattle.std.specs.Prelude.{◌≡◌, ◌<◌, [], ◌∷◌, IfOk, IfSome, OnOk, Some, is_some, length, slice_get, true};
 ghost use Rattle.dm_records.specs.Records.{at};
 ghost use Rattle.dm_records.specs.declared.record.Record.TheVariants.{Here};
@@ -13,6 +14,7 @@ ghost use Rattle.dm_kernel.specs.Turn.{first_runnable, goes_round, known_is_runn
 
 use crate::kernel::Kernel;
 use crate::part::Part;
+use crate::residents::process_mut;
 use crate::ring::move_back;
 use dm_line::line::Line;
 use dm_link::{MACHINES, Pid};
@@ -27,7 +29,7 @@ impl Kernel {
         requires may { MayTurn boot.now (kernel_state self.old) }
         requires images { images_are_valid boot.now.images ≡ true }
         ensures answers { Answers result self.new (turn boot.now (kernel_state self.old)) }
-        // Where it froze a process, that one can be carried whole.
+        // Where it froze a process or a server, that can be carried whole.
         ensures whole { OnOk result (FreezesWhole (kernel_state self.old) self.old.inbox) }
     {
         self.over = None;
@@ -41,7 +43,7 @@ impl Kernel {
     fn go_round(&mut self, boot: &Boot) -> Result<Vec<Part>, NoMemory>
         requires here { self.old.here < MACHINES }
         requires sent { CanTellAll (kernel_state self.old) }
-        requires processes { (p : _) (x : _) → at self.old.records p ≡ Some (Here x) → MayAct (kernel_state self.old) p x }
+        requires processes { (p : _) (x : _) → at self.old.records p ≡ Some (Here (resident.Process x)) → MayAct (kernel_state self.old) p x }
         ensures { Answers result self.new (goes_round boot.now (kernel_state self.old) (first_runnable (at self.old.records) self.old.ring)) }
     {
         match self.first_service() {
@@ -76,7 +78,7 @@ impl Kernel {
         ensures runnable { is_some result ≡ known_is_runnable (at self.new.records pid) }
         ensures service { IfSome result (λ s. IsHere (λ x. IsServiceOf x s) (at self.new.records pid)) }
     {
-        match self.records.here_mut(pid) {
+        match process_mut(&mut self.records, pid) {
             Some(process) => process.service(),
             None => None,
         }

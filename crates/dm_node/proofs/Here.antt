@@ -1,12 +1,14 @@
 -- A kernel stays on its machine, whatever a turn gives.
-use Rattle.dm_node.proofs.Names.{before_turn, ◌≡◌, ℕ, ◌==◌, Bool, true, false, List, [], ◌∷◌, refl, ◌∙◌, ⊤, if◌then◌else◌, slice_get, Option, None, Some, Ok, Err, Link, Pid, pid_eq, Message, What, Process, Status, first_on, Here, Frozen}
+use Rattle.dm_node.proofs.Names.{before_turn, ◌≡◌, ℕ, ◌==◌, Bool, true, false, List, [], ◌∷◌, refl, ◌∙◌, ⊤, if◌then◌else◌, slice_get, Option, None, Some, Ok, Err, Link, Pid, Message, What, Process, Status, first_on, Here, Frozen}
 use Rattle.dm_node.proofs.Names.{Incoming, Forward, frozen_of, incoming_of, is_told_back, Asker, kind_of, Arrival, restarted, with_piece, Departure, block_of, chunk_of, bind, has_room_for, Landed, Landing, landing, after_serving}
-use Rattle.dm_node.proofs.Names.{serving_answer, Boot, BootImage, BootProcess, manager, switchboard, MoveError, moves_child, moved_back, Called, Completed, calls, Completion, completion, Servers, asks_manager, asks_move, told_to_move}
-use Rattle.dm_node.proofs.Names.{begins_process, child_of, empty, with_all, with_child, accepts, restarts, restarts_as, takes_piece, took_piece, gives_piece, leaves, stays, forwards_and, Halt, answers_with, board_handles, board_took}
-use Rattle.dm_node.proofs.Names.{ended_handles, handles, has_room, here_handles, kernel_handles, lands, lands_as, makes, makes_of, manager_handles, manager_took, process_handles, told_board, told_manager, called_with, halts, processor_of}
-use Rattle.dm_node.proofs.Names.{preceded, unknown_handles, ran, received, received_by, receives, serves, serves_status, with_machine, KernelState, KernelKnown, Turned, own_id, with_here, first_runnable, goes_round, turn, here, node_opened, state_of}
+use Rattle.dm_node.proofs.Names.{serving_answer, Boot, BootImage, BootProcess, manager, MoveError, asks_to_move, moved_back, Called, Completed, calls, Completion, completion, asks_manager, asks_move, told_to_move}
+use Rattle.dm_node.proofs.Names.{begins_process, child_of, empty, with_all, with_child, accepts, restarts, restarts_as, takes_piece, took_piece, gives_piece, leaves, stays, forwards_and, Halt, answers_with, board_took}
+use Rattle.dm_node.proofs.Names.{ended_handles, handles, has_room, here_handles, kernel_handles, lands, lands_as, makes, makes_of, manager_took, process_handles, told_board, told_manager, called_with, halts, processor_of}
+use Rattle.dm_node.proofs.Names.{preceded, Board, Managing, Resident, bare, length, manager_in, migrates, name_of, resident_handles, with_servers, ran, received, received_by, receives, serves, serves_status, with_machine, KernelState, KernelKnown, Turned, own_id, with_here, first_runnable, goes_round, turn, here, node_opened, state_of}
 use Rattle.dm_node.proofs.Names.{calls_arriving_off, calls_off, hears_piece, is_not_called, says_stale, turns_back, comes_from, is_whole}
 use Rattle.std.specs.declared.result.Result.{Result}
+use Rattle.dm_resident.specs.Residents.{memory_of}
+use Rattle.dm_resident.specs.declared.Resident.TheVariants as resident
 use Rattle.dm_message.specs.declared.What.TheVariants as what
 use Rattle.dm_process.specs.declared.process.Status.TheVariants as status
 use Rattle.dm_datamove.specs.declared.Landed.TheVariants as landed
@@ -17,6 +19,9 @@ use Rattle.dm_syscall.specs.declared.Called.TheVariants as called
 use Rattle.dm_syscall.specs.declared.Completed.TheVariants as completed
 use Rattle.dm_kernel.specs.declared.run.Halt.TheVariants as halt
 use Rattle.dm_kernel.specs.Turn.{turns}
+use Rattle.dm_kernel.proofs.LawfulStart.{here_or}
+use Rattle.dm_kernel.proofs.LawfulStart.{here_still}
+use Rattle.dm_kernel.proofs.LawfulStart.{here_always}
 
 abbrev pub StaysAt : ℕ → Option Turned → Type 0
 StaysAt m None = ⊤
@@ -61,7 +66,9 @@ status_stays quantum s p x (status.Moving dir owner base own left pending) = tt
 
 serves_stays : (quantum : ℕ) (s : KernelState) (p : Pid) (o : Option KernelKnown) → StaysAt s.here (serves quantum s p o)
 serves_stays quantum s p None = tt
-serves_stays quantum s p (Some (Here x)) = status_stays quantum s p x x.status
+serves_stays quantum s p (Some (Here (resident.Process x))) = status_stays quantum s p x x.status
+serves_stays quantum s p (Some (Here (resident.Board v))) = tt
+serves_stays quantum s p (Some (Here (resident.Manager v))) = tt
 serves_stays quantum s p (Some (Frozen leaving)) = tt
 serves_stays quantum s p (Some (Incoming arriving)) = tt
 serves_stays quantum s p (Some (Forward place moves)) = tt
@@ -142,7 +149,7 @@ hears_stays : (s : KernelState) (m : Message) (p : Pid) (o : Option Arrival) →
 hears_stays s m p None = refl
 hears_stays s m p (Some a) = either s.here (comes_from a m.id.from.home) (takes_piece s m p a) (says_stale s m) (piece_stays s m p (with_piece a m.what)) refl
 
-restart_stays : (s : KernelState) (p : Pid) (a : Arrival) (o : Option Process) → StaysAt s.here (restarts_as s p a o)
+restart_stays : (s : KernelState) (p : Pid) (a : Arrival) (o : Option Resident) → StaysAt s.here (restarts_as s p a o)
 restart_stays s p a None = tt
 restart_stays s p a (Some x) = refl
 
@@ -150,48 +157,45 @@ kernel_stays : (b : Boot) (s : KernelState) (m : Message) (w : What) → StaysAt
 kernel_stays b s m (what.Create image links) = makes_of_stays b s m links.items (slice_get b.images image)
 kernel_stays b s m (what.Ask p blocks moves size asker) = asks_stays b s m p blocks moves size asker (has_room_for s.room blocks)
 kernel_stays b s m (what.Refuse p slots blocks) = leaving_stays s (frozen_of (s.records p)) (stays s p) (λ d. refl)
-kernel_stays b s m (what.PullState p chunk) = leaving_stays s (frozen_of (s.records p)) (λ d. gives_piece s m (chunk_of d.process.pid (state_of d.process) chunk)) (λ d. refl)
+kernel_stays b s m (what.PullState p chunk) = leaving_stays s (frozen_of (s.records p)) (λ d. gives_piece s m (chunk_of (name_of d.resident) (state_of d.resident) chunk)) (λ d. refl)
 kernel_stays b s m (what.State p chunk last bytes) = hears_stays s m p (incoming_of (s.records p))
-kernel_stays b s m (what.PullBlock p block) = leaving_stays s (frozen_of (s.records p)) (λ d. gives_piece s m (block_of d.process.pid d.process.memory block)) (λ d. refl)
+kernel_stays b s m (what.PullBlock p block) = leaving_stays s (frozen_of (s.records p)) (λ d. gives_piece s m (block_of (name_of d.resident) (memory_of d.resident) block)) (λ d. refl)
 kernel_stays b s m (what.Memory p block bytes) = hears_stays s m p (incoming_of (s.records p))
 kernel_stays b s m (what.AllTaken p) = leaving_stays s (frozen_of (s.records p)) (leaves s p) (λ d. refl)
-kernel_stays b s m (what.Restart p) = arriving_stays s (incoming_of (s.records p)) (restarts s p) (λ a. restart_stays s p a (restarted a))
+kernel_stays b s m (what.Restart p) = arriving_stays s (incoming_of (s.records p)) (restarts b s p) (λ a. restart_stays s p a (restarted (length b.machines) (length b.images) a))
 kernel_stays b s m (what.CallOff p) = leaving_stays s (frozen_of (s.records p)) (stays (preceded s p m.id.from.home) p) (λ d. refl)
 kernel_stays b s m (what.Bury p) = refl
 kernel_stays b s m w = tt
 
-told_board_stays : (s : KernelState) (m : Message) (v : Servers) (w : What) → StaysAt s.here (told_board s m v w)
+migrates_stays : (s : KernelState) (m : Message) (r : Resident) (to : ℕ) → StaysAt s.here (migrates s m r to)
+migrates_stays s m r to = either s.here (to == s.here) _ _ refl refl
+
+told_board_stays : (s : KernelState) (m : Message) (v : Board) (w : What) → StaysAt s.here (told_board s m v w)
 told_board_stays s m v (what.Update about) = refl
+told_board_stays s m v (what.Migrate to) = migrates_stays s m (resident.Board v) to
 told_board_stays s m v w = tt
 
-board_took_stays : (s : KernelState) (m : Message) (v : Servers) (o : Option board.Taken) → StaysAt s.here (board_took s m v o)
-board_took_stays s m v None = told_board_stays s m v m.what
-board_took_stays s m v (Some t) = refl
+board_stays : (s : KernelState) (m : Message) (v : Board) (o : Option board.Taken) → StaysAt s.here (board_took s m v o)
+board_stays s m v None = told_board_stays s m v m.what
+board_stays s m v (Some t) = refl
 
-board_stays : (s : KernelState) (m : Message) (o : Option Servers) → StaysAt s.here (board_handles s m o)
-board_stays s m None = tt
-board_stays s m (Some v) = board_took_stays s m v (board.takes s.here v.board m.what)
-
-told_manager_stays : (s : KernelState) (m : Message) (v : Servers) (w : What) → StaysAt s.here (told_manager s m v w)
+told_manager_stays : (s : KernelState) (m : Message) (v : Managing) (w : What) → StaysAt s.here (told_manager s m v w)
 told_manager_stays s m v (what.Update about) = refl
+told_manager_stays s m v (what.Migrate to) = migrates_stays s m (resident.Manager v) to
 told_manager_stays s m v w = tt
 
-manager_took_stays : (s : KernelState) (m : Message) (v : Servers) (o : Option manage.Taken) → StaysAt s.here (manager_took s m v o)
-manager_took_stays s m v None = told_manager_stays s m v m.what
-manager_took_stays s m v (Some t) = refl
+manager_stays : (s : KernelState) (m : Message) (v : Managing) (o : Option manage.Taken) → StaysAt s.here (manager_took s m v o)
+manager_stays s m v None = told_manager_stays s m v m.what
+manager_stays s m v (Some t) = refl
 
-manager_stays : (s : KernelState) (m : Message) (o : Option Servers) → StaysAt s.here (manager_handles s m o)
-manager_stays s m None = tt
-manager_stays s m (Some v) = manager_took_stays s m v (manage.takes s.here v.manager m.id.n m.what)
-
-unknown_stays : (s : KernelState) (m : Message) → StaysAt s.here (unknown_handles s m)
-unknown_stays s m =
-    either s.here (pid_eq m.to.pid switchboard) (board_handles s m s.servers) (if pid_eq m.to.pid manager then manager_handles s m s.servers else ended_handles s m m.what) (board_stays s m s.servers)
-    (either s.here (pid_eq m.to.pid manager) (manager_handles s m s.servers) (ended_handles s m m.what) (manager_stays s m s.servers) (ended_stays s m m.what))
+resident_stays : (s : KernelState) (m : Message) (r : Resident) → StaysAt s.here (resident_handles s m r)
+resident_stays s m (resident.Process x) = here_stays s m x m.what
+resident_stays s m (resident.Board v) = board_stays s m v (board.takes s.here v m.what)
+resident_stays s m (resident.Manager v) = manager_stays s m v (manage.takes s.here v m.id.n m.what)
 
 known_stays : (s : KernelState) (m : Message) (o : Option KernelKnown) → StaysAt s.here (process_handles s m o)
-known_stays s m None = unknown_stays s m
-known_stays s m (Some (Here x)) = here_stays s m x m.what
+known_stays s m None = ended_stays s m m.what
+known_stays s m (Some (Here r)) = resident_stays s m r
 known_stays s m (Some (Frozen leaving)) = refl
 known_stays s m (Some (Incoming arriving)) = refl
 known_stays s m (Some (Forward place moves)) = forwards_stays s m place moves (is_told_back (kind_of m.what))
@@ -215,14 +219,13 @@ turn_stays b s = turns_stays b (before_turn s) s.inbox
 told_stays : (s : KernelState) (p : Pid) (r : Result Message MoveError) → StaysAt s.here (told_to_move s p r)
 told_stays s p (Ok m) = refl
 told_stays s p (Err no.Unknown) = refl
-told_stays s p (Err no.Pinned) = refl
 
-asks_manager_stays : (s : KernelState) (p : Pid) (machine : ℕ) (o : Option Servers) → StaysAt s.here (asks_manager s p machine o)
+asks_manager_stays : (s : KernelState) (p : Pid) (machine : ℕ) (o : Option Managing) → StaysAt s.here (asks_manager s p machine o)
 asks_manager_stays s p machine None = tt
-asks_manager_stays s p machine (Some v) = told_stays s p (moves_child v.manager.children p machine (own_id s))
+asks_manager_stays s p machine (Some g) = told_stays s p (asks_to_move s.here g p machine (own_id s))
 
 pub asks_move_stays : (s : KernelState) (p : Pid) (machine : ℕ) → StaysAt s.here (asks_move s p machine)
-asks_move_stays s p machine = asks_manager_stays s p machine s.servers
+asks_move_stays s p machine = asks_manager_stays s p machine (manager_in (s.records manager))
 
 -- calling a migration off
 arriving_called_off : (s : KernelState) (p : Pid) (o : Option Arrival) → StaysAt s.here (calls_arriving_off s p o)
@@ -232,18 +235,5 @@ arriving_called_off s p (Some a) = either s.here (is_whole a.wanted) (is_not_cal
 pub calls_off_stays : (s : KernelState) (p : Pid) → StaysAt s.here (calls_off s p)
 calls_off_stays s p = arriving_called_off s p (incoming_of (s.records p))
 
--- a machine of the boot file has its number
-begin_here : (test : Bool) (s t : KernelState) → t.here ≡ s.here → (if test then t else s).here ≡ s.here
-begin_here true s t h = h
-begin_here false s t h = refl
-
-begins_here : (b : Boot) (s : KernelState) (p : BootProcess) (o : Option BootImage) → (begins_process b s p o).here ≡ s.here
-begins_here b s p None = refl
-begins_here b s p (Some i) = begin_here (p.pid.home == s.here) s (with_child s p.pid (child_of b p.pid i p.links) i.blocks) refl
-
-all_begin_here : (b : Boot) (s : KernelState) (ps : List BootProcess) → (with_all b s ps).here ≡ s.here
-all_begin_here b s [] = refl
-all_begin_here b s (p ∷ ps) = all_begin_here b (begins_process b s p (slice_get b.images p.image)) ps ∙ begins_here b s p (slice_get b.images p.image)
-
 pub opened_here : (b : Boot) (m : ℕ) → here (node_opened b m) ≡ m
-opened_here b m = all_begin_here b (empty b m) b.processes
+opened_here b m = here_always b (empty b m) b.processes ∙ here_or (m == 0) (bare b m) (with_servers b (bare b m)) refl

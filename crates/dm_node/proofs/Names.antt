@@ -6,7 +6,7 @@ pub use Rattle.std.proofs.lemmas.Option.{get_or_from_slice_get}
 pub use Rattle.std.proofs.lemmas.Result.{on_ok_weaker}
 pub use Rattle.std.specs.Result.{IsErrAnd}
 pub use Rattle.std.specs.Vec.{with_items}
-pub use Rattle.dm_room.specs.Room.{has_room as has_room_for}
+pub use Rattle.dm_migrate.specs.Rooms.{has_room_for}
 pub use Rattle.dm_wire.proofs.Names.{leb_tells}
 pub use Rattle.dm_stream.proofs.Names.{Ack, Data, Load, Receiving, Sending, append-nil, due, given_count, moved_up, next, outstanding, slice_get_within, window}
 pub use Rattle.dm_stream.specs.Receiving.{after_arrival, after_next, arrival, fresh_receiving}
@@ -28,13 +28,13 @@ pub use Rattle.dm_kernel.proofs.Names.{Incoming, IsLawfulMessage, IsLawfulPart, 
 pub use Rattle.dm_kernel.proofs.Names.{Process, Status, Turned, What, [], accepts, after_serving, answers_with, ap, arith, asks_manager, asks_move, before_turn, begins_process, bind, block_of, board_handles, board_took, called_with, calls}
 pub use Rattle.dm_kernel.proofs.Names.{calls_arriving_off, calls_off, child_of, chunk_of, comes_from, completion, empty, ended_handles, false, first_on, first_runnable, forwards_and, frozen_of, gives_piece, goes_round, halts, handles}
 pub use Rattle.dm_kernel.proofs.Names.{hears_piece, here_handles, if◌then◌else◌, images_are_valid, incoming_of, inl, inr, into_iter_items, is_not_called, is_some, is_told_back, is_whole, kernel_handles, kind_of, landing, lands, lands_as}
-pub use Rattle.dm_kernel.proofs.Names.{leaves, length, makes, makes_of, manager, manager_handles, manager_took, moved_back, moves_child, own_id, pid_eq, process_handles, processor_of, ran, received, received_by, receives, refl, replicate}
-pub use Rattle.dm_kernel.proofs.Names.{restarts, restarts_as, says_stale, serves, serves_status, serving_answer, slice_get, state_of, stays, subst, suc, switchboard, sym, takes_piece, told_board, told_manager, told_to_move, preceded, unknown_handles}
+pub use Rattle.dm_kernel.proofs.Names.{leaves, length, makes, makes_of, manager, manager_handles, manager_took, moved_back, asks_to_move, own_id, pid_eq, process_handles, processor_of, ran, received, received_by, receives, refl, replicate}
+pub use Rattle.dm_kernel.proofs.Names.{restarts, restarts_as, says_stale, serves, serves_status, serving_answer, slice_get, state_of, stays, subst, suc, switchboard, sym, takes_piece, told_board, told_manager, told_to_move, preceded}
+pub use Rattle.dm_kernel.proofs.Names.{Board, Managing, Resident, bare, manager_in, migrates, name_of, resident_handles, with_servers}
 pub use Rattle.dm_kernel.proofs.Names.{took_piece, true, turn, turns_back, with_all, with_child, with_here, with_machine, with_piece, zero, ℕ, ⊤, ◌*◌, ◌++◌, ◌+◌, ◌-◌, ◌<◌, ◌==◌, ◌∙◌, ◌∷◌, ◌≡◌, ◌≤◌}
 pub use Rattle.dm_kernel.specs.Carried.{FreezesWhole}
 pub use Rattle.dm_kernel.specs.Handle.{has_room}
 pub use Rattle.dm_kernel.specs.declared.kernel.Kernel.{Kernel}
-pub use Rattle.dm_kernel.specs.declared.kernel.Servers.{Servers}
 pub use Rattle.dm_kernel.specs.declared.part.Part.{Part}
 pub use Rattle.dm_kernel.specs.declared.run.Halt.{Halt}
 pub use Rattle.dm_node.specs.Acts.{acknowledges, acts, again, all_out, arrives, arrives_packet, before, comes, comes_in, count_out, counts_out, first_out, gives, is_worn, lets_next, none_waits, put_line, routes, routes_away, routes_home}

@@ -5,6 +5,7 @@ use Rattle.dm_node.proofs.Names.{routes_away, routes_home, sends_due, turns, Ans
 use Rattle.dm_kernel.specs.declared.part.Part.TheVariants as part
 use Rattle.dm_kernel.specs.Meets as kernel
 use Rattle.dm_node.specs.declared.stop.Stop.TheVariants as stop
+pub use Rattle.dm_kernel.proofs.Opening.{is_state as kernel_is}
 
 -- what answers the rest answers the whole
 pub answers_behind : (r : Result Unit Stop) (after : Node) (old mid new : List Out) (outs : List Out) (a : Acts) → mid ≡ old ++ outs → Answers r after mid new a → Answers r after old new (behind outs a)
@@ -84,11 +85,6 @@ gave_counts (Worn x y) numbers after old new g c = absurd g
 
 pub routed_counts : (n : NodeState) (after : Node) (old new : List Out) (m : Message) → n.home ≤ n.numbers → GaveActs after old new (routes n m) → Counts (node_state after) n.numbers
 routed_counts n after old new m h g = gave_counts (routes n m) n.numbers after old new g (routes_counts n m h)
-
--- the kernel's state, pointwise and whole
-pub kernel_is : (k : Kernel) (s : KernelState) → kernel.IsIn k s → kernel.kernel_state k ≡ s
-kernel_is k s h =
-    λ i. record { here = h.here i; records = λ q. h.records q i; preds = λ q k. h.preds q k i; ring = h.ring i; inbox = h.inbox i; made = h.made i; sent = h.sent i; room = h.room i; servers = h.servers i; over = h.over i }
 
 -- the kernel's turn, then what comes of its parts
 some_answered : (r : Result Unit Stop) (after : Node) (old new : List Out) (a : Acts) → Answers r after old new a → AnswersSome r after old new (Some a)

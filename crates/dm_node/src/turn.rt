@@ -27,7 +27,7 @@ impl Node {
         requires lawful { IsLawfulState (node_state self.old).kernel }
         requires streams { HasStreams self.old }
         ensures answers { AnswersSome result self.new outs.old.items outs.new.items (turn boot.now (node_state self.old)) }
-        // Where the kernel froze a process, that one can be carried whole.
+        // Where the kernel froze a process or a server, that can be carried whole.
         ensures whole { OrNoMemory result (FreezesWhole (node_state self.old).kernel (node_state self.old).kernel.inbox) }
     {
         turns_are_lawful();
@@ -37,7 +37,7 @@ impl Node {
         }
     }
 
-    /// Has the manager tell a process to move to a machine, on the machine where the manager is. What it gives comes to
+    /// Has the manager tell a process or a server to move to a machine, on the machine where the manager is. What it gives comes to
     /// the end of `outs`, and it stops as worn like a turn.
     pub fn ask_move(&mut self, pid: Pid, to: u8, outs: &mut Vec<Out>) -> Result<(), Stop>
         requires may { MayAskMove (node_state self.old) }

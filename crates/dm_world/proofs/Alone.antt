@@ -2,6 +2,8 @@
 use Rattle.dm_world.proofs.Names.{Pid, keeps_over, over_in, with_over, Why, ◌≡◌, ◌≢◌, ℕ, zero, suc, ◌<◌, ◌≤◌, Bool, true, false, ◌==◌, List, [], ◌∷◌, length, refl, sym, ap, subst, ◌∙◌, inl, inr, arith, Result, ⊤, if◌then◌else◌, ◌&&◌, map}
 use Rattle.dm_world.proofs.Names.{All, Option, None, Some, Ok, Err, eqb_tells, All-head, All-tail, Message, Packet, PacketError, packet_of, Load, Data, Ack, Sent, bytes_at, marked, after_mark, is_pair, Boot, images_are_valid, Line}
 use Rattle.dm_world.proofs.Names.{at_machine, Step, Out, ActsLawfully, IsFrom, IsLawfulOut, MayArrive, Acted, Acts, Goes, Worn, NodeState, here, spoken, with_packet, arrives_lawfully, asks_lawfully, ticks_lawfully, turns_lawfully}
+use Rattle.dm_world.proofs.Seats.{seat_within}
+use Rattle.dm_world.proofs.Names.{MayAskAt, asks_at, seat_of, unwrap_or}
 use Rattle.dm_world.proofs.Names.{ActsAlone, acts_on, bytes_of, MayDeliver, MayRead, MayStep, MeetsSome, Happened, Says, WorldState, WornOut, acted, arrives, delivers, reads, turned, world_step, calls_off_lawfully}
 use Rattle.dm_packet.specs.declared.Packet.TheVariants as packet
 use Rattle.dm_schedule.specs.declared.Step.TheVariants as step
@@ -28,7 +30,7 @@ spoken_elsewhere (out.Sends p ∷ outs) wires m a c h apart =
     spoken_elsewhere outs (with_packet wires p) m a c (All-tail (IsLawfulOut m) (out.Sends p) outs h) apart ∙ packet_elsewhere wires p m a c lawful.1 apart
 
 -- another machine is as it was
-other_machine : {X : Type 0} (f : ℕ → X) (m c : ℕ) (x : X) → c ≢ m → at_machine f m x c ≡ f c
+pub other_machine : {X : Type 0} (f : ℕ → X) (m c : ℕ) (x : X) → c ≢ m → at_machine f m x c ≡ f c
 other_machine f m c x apart =
     elim (eqb_tells m c) [
       | inl e ↦ absurd (apart (sym e.1))
@@ -96,8 +98,13 @@ delivers_alone w e a c k (Some bytes) h may =
     marked_alone w a c k c (reads (record w { wires = after_mark w.wires a c k }) e a c (packet_of bytes))
     (reads_alone (record w { wires = after_mark w.wires a c k }) e a c (packet_of bytes) h (marked_read w a c k (packet_of bytes) may))
 
+-- the manager is asked where it is
+asks_alone : (w : WorldState) (e : Step) (p : Pid) (m : ℕ) (o : Option ℕ) → ((s : ℕ) → o ≡ Some s → here (w.nodes s) ≡ s) → m ≤ 15 → MayAskAt w o → AloneIn (unwrap_or o 0) w (asks_at w e p m o)
+asks_alone w e p m None h small may = record { nodes = λ c apart. refl; wires = λ a c apart. refl }
+asks_alone w e p m (Some s) h small may = turned_alone w e s (node.asks_move (w.nodes s) p m) (λ a f. subst (λ k. ActsLawfully k a) (h s refl) (asks_lawfully (w.nodes s) p m a small may.0 may.1 f))
+
 step_alone : (b : Boot) (w : WorldState) (e : Step) → images_are_valid b.images ≡ true → length b.machines ≤ 16 → ((m : ℕ) → m < length b.machines → here (w.nodes m) ≡ m) → MayStep b w e
-    → AloneIn (acts_on e) w (world_step b w e)
+    → AloneIn (acts_on b w e) w (world_step b w e)
 step_alone b w (step.Turn m) images few h may =
     let o = node.turn b (w.nodes m) in
     kept_alone w (with_over w.ended (over_in o)) m (world_step b w (step.Turn m))
@@ -107,9 +114,8 @@ step_alone b w (step.Tick m) images few h may =
 step_alone b w (step.Deliver a c k) images few h may = delivers_alone w (step.Deliver a c k) a c k (bytes_at (w.wires a c) k) (h c may.1) may.3
 step_alone b w (step.Migrate p m) images few h may =
     let within : m < length b.machines = may.0 in
-    let some : 0 < length b.machines = omega (arith, within) in
     let small : m ≤ 15 = omega (arith, within, few) in
-    turned_alone w (step.Migrate p m) 0 (node.asks_move (w.nodes 0) p m) (λ a e. subst (λ k. ActsLawfully k a) (h 0 some) (asks_lawfully (w.nodes 0) p m a small may.1 may.2 e))
+    asks_alone w (step.Migrate p m) p m (seat_of (length b.machines) w.nodes) (λ s e. h s (seat_within (length b.machines) w.nodes s e)) small may.1
 step_alone b w (step.CallOff p m) images few h may =
     turned_alone w (step.CallOff p m) m (node.calls_off (w.nodes m) p)
     (λ a e. subst (λ k. ActsLawfully k a) (h m may.0) (calls_off_lawfully (w.nodes m) p a may.1 may.2 e))
@@ -122,5 +128,5 @@ alone_met m w s lines (Some g) met h =
     subst P (sym met.happened) h
 
 pub alone : (b : Boot) (w s : WorldState) (e : Step) (lines : List Line) → images_are_valid b.images ≡ true → length b.machines ≤ 16 → ((m : ℕ) → m < length b.machines → here (w.nodes m) ≡ m) → MayStep b w e
-    → MeetsSome s lines (world_step b w e) → ActsAlone (acts_on e) w s
-alone b w s e lines images few h may met = alone_met (acts_on e) w s lines (world_step b w e) met (step_alone b w e images few h may)
+    → MeetsSome s lines (world_step b w e) → ActsAlone (acts_on b w e) w s
+alone b w s e lines images few h may met = alone_met (acts_on b w e) w s lines (world_step b w e) met (step_alone b w e images few h may)

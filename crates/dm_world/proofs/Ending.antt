@@ -2,7 +2,22 @@
 use Rattle.dm_world.proofs.Names.{◌≡◌, ℕ, zero, suc, ◌+◌, ◌<◌, ◌≤◌, Bool, true, false, ◌==◌, if◌then◌else◌, List, [], ◌∷◌, ◌++◌, length, take, drop, get_or, refl, sym, ap, subst, ◌∙◌, inl, inr, arith, append-nil, append_assoc, drop-cons}
 use Rattle.dm_world.proofs.Names.{take-suc, slice_get, All, Option, None, Some, eqb_tells, nat_tests, get_or_from_slice_get, slice_get-get_or, slice_get_within, Message, MsgId, Named, IsLawfulNamed, EndLine, or, before_zeros, trimmed, Link}
 use Rattle.dm_world.proofs.Names.{Pid, SaysSome, WorldState, first_says, home_with, homes_with, joined_below, lines_in, link_at, link_lines, name_lines, names_of, slot_line}
+use Rattle.dm_world.proofs.Names.{Boot, Err, Ok, Result, option_map, option_map_or, ◌^◌, ◌&&◌}
+use Rattle.std.specs.Option.{IfSome}
+use Rattle.std.specs.Prelude.{IfOk}
+use Rattle.dm_memory.specs.declared.NoMemory.{NoMemory}
+use Rattle.dm_procman.specs.Managing.{Managing}
+use Rattle.dm_resident.specs.Lawful.{IsLawfulResident}
+use Rattle.dm_process.specs.declared.process.Process.{Process}
+use Rattle.dm_resident.specs.Residents.{manager_of, process_of, queue_of}
+use Rattle.dm_resident.specs.declared.Resident.{Resident}
+use Rattle.dm_resident.specs.declared.Resident.TheVariants as resident
+use Rattle.dm_migrate.specs.Arrival.{Arrival, is_process_coming, restarted}
+use Rattle.dm_migrate.specs.declared.arriving.Wanted.TheVariants.{Nothing}
+use Rattle.dm_line.specs.declared.end_line.Standing.{Standing}
+use Rattle.dm_world.specs.Ends.{HasPlainEnd, come_lines, come_whole, lists_of, resident_lines, sent_lines, server_come, stands_here}
 use Rattle.dm_line.specs.declared.end_line.EndLine.TheVariants as end
+use Rattle.dm_line.specs.declared.end_line.Standing.TheVariants as standing
 
 drop_at : {X : Type 0} (xs : List X) (i : ℕ) (x : X) → slice_get xs i ≡ Some x → drop i xs ≡ x ∷ drop (i + 1) xs
 drop_at xs i x e =
@@ -110,6 +125,84 @@ home_more w f home old mid new h g =
 -- all of them have said theirs
 pub all_said : (f : ℕ → List EndLine) (n all : ℕ) (old new : List EndLine) → n ≡ all → new ≡ old ++ joined_below f n → new ≡ old ++ joined_below f all
 all_said f n all old new end h = h ∙ ap (λ k. old ++ joined_below f k) end
+
+pub all_homes_said : (w : WorldState) (f : Pid → List EndLine) (n all : ℕ) (old new : List EndLine) → n ≡ all → new ≡ old ++ homes_with w f n → new ≡ old ++ homes_with w f all
+all_homes_said w f n all old new end h = h ∙ ap (λ k. old ++ homes_with w f k) end
+
+-- some lines, one behind the other
+pub two_said : (a b old one new : List EndLine) → one ≡ old ++ a → new ≡ one ++ b → new ≡ old ++ (a ++ b)
+two_said a b old one new e f = f ∙ ap (λ ls. ls ++ b) e ∙ append_assoc old a b
+
+pub three_said : (a b c old one two new : List EndLine) → one ≡ old ++ a → two ≡ one ++ b → new ≡ two ++ c → new ≡ old ++ ((a ++ b) ++ c)
+three_said a b c old one two new e f g = two_said (a ++ b) c old two new (two_said a b old one two e f) g
+
+pub four_said : (a b c d old one two three new : List EndLine) → one ≡ old ++ a → two ≡ one ++ b → three ≡ two ++ c → new ≡ three ++ d → new ≡ old ++ (((a ++ b) ++ c) ++ d)
+four_said a b c d old one two three new e f g h = two_said ((a ++ b) ++ c) d old three new (three_said a b c old one two three e f g) h
+
+-- all lines, part by part
+pub all_lines : (x z : EndLine) (a b c d e f l0 l1 l2 l3 l4 l5 l6 l7 l8 : List EndLine) → l0 ≡ [] → l1 ≡ l0 ++ x ∷ [] → l2 ≡ l1 ++ a → l3 ≡ l2 ++ b → l4 ≡ l3 ++ c → l5 ≡ l4 ++ d → l6 ≡ l5 ++ e → l7 ≡ l6 ++ f → l8 ≡ l7 ++ z ∷ []
+    → l8 ≡ x ∷ a ++ b ++ c ++ d ++ e ++ f ++ z ∷ []
+all_lines x z a b c d e f l0 l1 l2 l3 l4 l5 l6 l7 l8 e0 e1 e2 e3 e4 e5 e6 e7 e8 =
+    let p2 : l2 ≡ x ∷ a = e2 ∙ ap (λ l. l ++ a) (e1 ∙ ap (λ l. l ++ x ∷ []) e0) in
+    let p3 : l3 ≡ x ∷ a ++ b = e3 ∙ ap (λ l. l ++ b) p2 in
+    let p4 : l4 ≡ x ∷ a ++ b ++ c = e4 ∙ ap (λ l. l ++ c) p3 in
+    let p5 : l5 ≡ x ∷ a ++ b ++ c ++ d = e5 ∙ ap (λ l. l ++ d) p4 in
+    let p6 : l6 ≡ x ∷ a ++ b ++ c ++ d ++ e = e6 ∙ ap (λ l. l ++ e) p5 in
+    let p7 : l7 ≡ x ∷ a ++ b ++ c ++ d ++ e ++ f = e7 ∙ ap (λ l. l ++ f) p6 in
+    e8 ∙ ap (λ l. l ++ z ∷ []) p7
+
+-- what waits for a process waits for what it is of
+pub queue_is : (r : Resident) → queue_of r ≡ option_map_or (λ (x : Process). x.queue) (process_of r) []
+queue_is (resident.Process x) = refl
+queue_is (resident.Board b) = refl
+queue_is (resident.Manager g) = refl
+
+-- how many messages a server has sent, and where it is
+pub server_at_home : (m : ℕ) (p : Pid) (s : Standing) (sent : ℕ) (old new : List EndLine) → ((m == 0) && stands_here s) ≡ true → new ≡ old ++ end.Server p sent ∷ [] → new ≡ old ++ sent_lines m p s sent
+server_at_home m p s sent old new home e = e ∙ ap (λ (t : Bool). old ++ end.Server p sent ∷ (if t then [] else end.Place p m s ∷ [])) (sym home)
+
+pub server_elsewhere : (m : ℕ) (p : Pid) (s : Standing) (sent : ℕ) (old one new : List EndLine) → ((m == 0) && stands_here s) ≡ false → one ≡ old ++ end.Server p sent ∷ [] → new ≡ one ++ end.Place p m s ∷ [] → new ≡ old ++ sent_lines m p s sent
+server_elsewhere m p s sent old one new away e f =
+    two_said (end.Server p sent ∷ []) (end.Place p m s ∷ []) old one new e f ∙ ap (λ (t : Bool). old ++ end.Server p sent ∷ (if t then [] else end.Place p m s ∷ [])) (sym away)
+
+-- what has come, and is said
+pub come_said : (b : Boot) (a : Arrival) (m : ℕ) (p : Pid) (o : Option Resident) (old new : List EndLine) → a.wanted ≡ Nothing → restarted (length b.machines) (length b.images) a ≡ o → SaysSome true old new (come_lines m p o) → SaysSome true old new (come_lines m p (come_whole b a a.wanted))
+come_said b a m p o old new whole is said =
+    let come : come_whole b a a.wanted ≡ o = ap (come_whole b a) whole ∙ is in
+    subst (λ (q : Option Resident). SaysSome true old new (come_lines m p q)) (sym come) said
+
+pub arrived_said : (m : ℕ) (p : Pid) (r : Resident) (o : Option Resident) (old new : List EndLine) → o ≡ Some r → new ≡ old ++ resident_lines m p standing.Arriving r → SaysSome true old new (come_lines m p o)
+arrived_said m p r o old new is said = subst (λ (q : Option Resident). SaysSome true old new (come_lines m p q)) (sym is) (refl, said)
+
+-- what a server keeps that has come
+pub kept_said : (b : Boot) (a : Arrival) (r : Resident) (old new : List EndLine) → a.wanted ≡ Nothing → is_process_coming a ≡ false → restarted (length b.machines) (length b.images) a ≡ Some r → new ≡ old ++ lists_of r
+    → SaysSome true old new (option_map lists_of (server_come b a a.wanted))
+kept_said b a r old new whole server is said =
+    let come : server_come b a a.wanted ≡ Some r = ap (λ (t : Bool). if t then None else come_whole b a a.wanted) server ∙ (ap (come_whole b a) whole ∙ is) in
+    subst (λ (q : Option Resident). SaysSome true old new (option_map lists_of q)) (sym come) (refl, said)
+
+pub none_kept_of : (b : Boot) (a : Arrival) (old : List EndLine) → is_process_coming a ≡ true → SaysSome false old old (option_map lists_of (server_come b a a.wanted))
+none_kept_of b a old process =
+    let none : server_come b a a.wanted ≡ None = ap (λ (t : Bool). if t then None else come_whole b a a.wanted) process in
+    subst (λ (q : Option Resident). SaysSome false old old (option_map lists_of q)) (sym none) (refl, refl)
+
+no_server : {A : Type 0} (t : Bool) (o : Option A) → o ≡ None → (if t then None else o) ≡ None
+no_server true o e = refl
+no_server false o e = e
+
+pub not_come : (b : Boot) (a : Arrival) (old : List EndLine) → come_whole b a a.wanted ≡ None → SaysSome false old old (option_map lists_of (server_come b a a.wanted))
+not_come b a old none =
+    subst (λ (q : Option Resident). SaysSome false old old (option_map lists_of q)) (sym (no_server (is_process_coming a) (come_whole b a a.wanted) none)) (refl, refl)
+
+-- what is read is lawful, and each child of a manager has a number
+pub plain_end : (r : Resident) → IsLawfulResident r → IfSome (manager_of r) (λ (g : Managing). length g.children < 2 ^ 32) → HasPlainEnd r
+plain_end (resident.Process x) lawful numbered = tt
+plain_end (resident.Board b) lawful numbered = lawful
+plain_end (resident.Manager g) lawful numbered = numbered
+
+pub plain_ends : (r : Result Resident NoMemory) → IfOk r IsLawfulResident → IfOk r (λ x. IfSome (manager_of x) (λ (g : Managing). length g.children < 2 ^ 32)) → IfOk r HasPlainEnd
+plain_ends (Ok x) lawful numbered = plain_end x lawful numbered
+plain_ends (Err e) lawful numbered = tt
 
 -- one more slot is said
 pub slot_more : (p : Pid) (table : List (Option Link)) (k : ℕ) (o : Option Link) (ls whole : List EndLine) → k < length table → link_at table k ≡ o → ls ++ link_lines p k (drop k table) ≡ whole

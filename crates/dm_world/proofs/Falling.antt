@@ -3,6 +3,7 @@ use Rattle.dm_world.proofs.Names.{Pid, keeps_over, over_in, with_over, Why, ◌�
 use Rattle.dm_world.proofs.Names.{⊤, ◌&&◌, if◌then◌else◌, option_map, Option, None, Some, Ok, Err, eqb_tells, leb_tells, slice_get_cases, Packet, PacketError, packet_of, Data, Ack, Sent, bytes_at, just_put, marked, after_mark, is_pair}
 use Rattle.dm_world.proofs.Names.{Boot, Step, Out, Acted, Acts, Goes, Worn, spoken, with_packet, sum_below, Pass, Round, Settle, Cursor, One, Passing, Place, Packets, Turns, End, Falls, IsFresh, LeavesFewer, LeavesNoMore, SettleGoes}
 use Rattle.dm_world.proofs.Names.{TakesTurn, room, room_of, seen_count, turns_at, turns_of, first_unseen, Happened, Said, Says, WorldState, WornOut, acted, delivers, reads, turned, world_step, Rest}
+use Rattle.dm_world.proofs.Names.{asks_at, seat_of}
 use Rattle.dm_packet.specs.declared.Packet.TheVariants as packet
 use Rattle.dm_schedule.specs.declared.Step.TheVariants as step
 use Rattle.dm_node.specs.declared.out.Out.TheVariants as out
@@ -136,13 +137,17 @@ delivers_more w e a c k None = λ x y. omega arith
 delivers_more w e a c k (Some bytes) =
     marked_more w a c k (reads (record w { wires = after_mark w.wires a c k }) e a c (packet_of bytes)) (reads_more (record w { wires = after_mark w.wires a c k }) e a c (packet_of bytes))
 
+asks_more : (w : WorldState) (e : Step) (p : Pid) (m : ℕ) (o : Option ℕ) → MoreIn w (asks_at w e p m o)
+asks_more w e p m None = λ a c. omega arith
+asks_more w e p m (Some s) = turned_more w e s (node.asks_move (w.nodes s) p m)
+
 pub step_more : (b : Boot) (w : WorldState) (e : Step) → MoreIn w (world_step b w e)
 step_more b w (step.Turn m) =
     let o = node.turn b (w.nodes m) in
     kept_more w (with_over w.ended (over_in o)) (world_step b w (step.Turn m)) (turned_more (keeps_over w o) (step.Turn m) m o)
 step_more b w (step.Tick m) = acted_more w (step.Tick m) m (node.tick (w.nodes m))
 step_more b w (step.Deliver a c k) = delivers_more w (step.Deliver a c k) a c k (bytes_at (w.wires a c) k)
-step_more b w (step.Migrate p m) = turned_more w (step.Migrate p m) 0 (node.asks_move (w.nodes 0) p m)
+step_more b w (step.Migrate p m) = asks_more w (step.Migrate p m) p m (seat_of (length b.machines) w.nodes)
 step_more b w (step.CallOff p m) = turned_more w (step.CallOff p m) m (node.calls_off (w.nodes m) p)
 
 more_said : (w : WorldState) (o : Option Happened) (s : Said) → o ≡ Some (Says s) → MoreIn w o → SeenMore w s.state

@@ -6,6 +6,8 @@ pub use Rattle.std.proofs.lemmas.List.{drop_all, drop_more}
 pub use Rattle.std.proofs.lemmas.List.Elements.{All-weaker}
 pub use Rattle.std.proofs.lemmas.Option.{slice_get-get_or, slice_get_cases, slice_get_past}
 pub use Rattle.std.specs.List.{position_from}
+pub use Rattle.std.specs.Option.{unwrap_or}
+pub use Rattle.std.specs.Prelude.{is_some}
 pub use Rattle.dm_records.proofs.Names.{get, is_at}
 pub use Rattle.dm_processor.proofs.Names.{drop-append-le, drop-cons, get_or_append_left}
 pub use Rattle.dm_wire.proofs.Names.{Sent, is_unseen, just_put, marked}
@@ -17,7 +19,8 @@ pub use Rattle.dm_schedule.specs.declared.Directive.{Directive}
 pub use Rattle.dm_schedule.specs.declared.Step.{Step}
 pub use Rattle.dm_statebytes.proofs.Names.{PacketError, ◌^◌}
 pub use Rattle.dm_migrate.proofs.Names.{length-append, slice_index_or}
-pub use Rattle.dm_onekernel.specs.Boot.{first_number}
+pub use Rattle.dm_onekernel.specs.Boot.{first_number, manager, switchboard}
+pub use Rattle.dm_kernel.specs.State.{manager_in}
 pub use Rattle.dm_switchboard.proofs.Imports.{Named}
 pub use Rattle.dm_procman.proofs.Names.{option_map_or, position}
 pub use Rattle.dm_syscall.proofs.Names.{set}
@@ -48,16 +51,16 @@ pub use Rattle.dm_node.specs.declared.stop.Stop.{Stop}
 pub use Rattle.dm_world.specs.Cursor.{Falls, FirstIs, FirstTurnIs, InPassIs, IsFresh, LeavesFewer, LeavesNoMore, NextIs, NextPassIs, RoundGoes, SettleGoes, TakesTurn, as_next, found_at, machines_left, pairs_left, room_of, row_at}
 pub use Rattle.dm_world.specs.Cursor.{seen_count, todo_at, turn_at, turns_at, turns_of}
 unfoldable pub use Rattle.dm_world.specs.Cursor.{pairs_at, room}
-pub use Rattle.dm_world.specs.Ends.{SaysSome, awaited_lines, child_lines, first_awaited, first_had, first_says, held_line, homes_with, lines_in, link_lines, name_lines, names_of, pending_lines, process_lines, queue_of, record_lines}
-pub use Rattle.dm_world.specs.Ends.{record_queue, slot_line, stream_line}
+pub use Rattle.dm_world.specs.Ends.{SaysSome, awaited_kept, awaited_lines, child_lines, first_awaited, first_had, first_says, held_line, held_lines, homes_with, lines_in, link_lines, name_lines, names_of, pending_lines, process_lines, queue_of, record_lines}
+pub use Rattle.dm_world.specs.Ends.{record_kept, record_queue, slot_line, stream_line}
 pub use Rattle.dm_world.specs.Local.{ActsAlone, acts_on, bytes_of}
-pub use Rattle.dm_world.specs.May.{MayDeliver, MayRead, MayStep, sent_by}
+pub use Rattle.dm_world.specs.May.{MayAskAt, MayDeliver, MayRead, MayStep, sent_by}
 pub use Rattle.dm_world.specs.Meets.{ActedAt, ActedSome, Answers, AreNodes, IsNode, IsSendable, IsWorld, IsWornOut, Meets, MeetsSome, TurnAnswers, world_state}
 unfoldable pub use Rattle.dm_world.specs.Meets.{ended_in, node_in}
 pub use Rattle.dm_world.specs.Next.{all_heard, first_unseen, world_has_mail, world_is_quiet, world_next_step, world_seen, world_serves, world_undelivered}
 pub use Rattle.dm_world.specs.Readable.{AreReadBack, gave_bytes, gave_read, gave_some}
 pub use Rattle.dm_world.specs.Spoke.{Spoke}
-pub use Rattle.dm_world.specs.World.{Happened, Said, Says, WorldState, WornOut, acted, arrives, delivers, keeps_over, over_in, reads, turned, with_over, world_step}
+pub use Rattle.dm_world.specs.World.{Happened, Said, Says, WorldState, WornOut, acted, arrives, asks_at, delivers, keeps_over, over_in, reads, seat_of, turned, with_over, world_step}
 pub use Rattle.dm_world.specs.declared.cursor.Cursor.{Cursor}
 pub use Rattle.dm_world.specs.declared.cursor.Cursor.TheVariants.{One, Passing}
 pub use Rattle.dm_world.specs.declared.cursor.Place.{Place}

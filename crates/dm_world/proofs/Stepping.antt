@@ -7,6 +7,7 @@ use Rattle.dm_line.specs.declared.line.Line.TheVariants as line
 use Rattle.dm_node.specs.declared.stop.Stop.TheVariants as stop
 use Rattle.dm_node.specs.declared.out.Out.TheVariants as out
 use Rattle.dm_world.proofs.Delivering.{Arriving}
+use Rattle.dm_node.proofs.States.{at_same}
 
 -- what one directive makes of the world, but for its machines
 pub record Grouped (old now : World) (before : ℕ → ℕ → List Sent) (kept : Pid → Option Why) (e : Step) (outs : List Out) (said : List Line) : Type 0 where
@@ -57,16 +58,9 @@ acted_size b xs ys m outs None h = absurd h
 acted_size b xs ys m outs (Some (Goes a)) h = h.size
 acted_size b xs ys m outs (Some (Worn from to)) h = absurd h
 
--- who ended in the turn stands in the machine's kernel then
-at_self : {X : Type 0} (f : ℕ → X) (m : ℕ) (x : X) → at_machine f m x m ≡ x
-at_self f m x = elim (eqb_tells m m) [
-  | inl e ↦ ap (λ (t : Bool). if t then x else f m) e.0
-  | inr e ↦ absurd (e.1 refl)
-]
-
 pub over_there : (b : Boot) (xs ys : List Node) (m : ℕ) (outs : List Out) (o : Option Acts) → ActedSome b xs ys m outs o → (node_in b ys m).kernel.over ≡ over_in o
 over_there b xs ys m outs None h = absurd h
-over_there b xs ys m outs (Some (Goes a)) h = ap (λ (n : NodeState). n.kernel.over) (h.nodes m ∙ at_self (node_in b xs) m a.state)
+over_there b xs ys m outs (Some (Goes a)) h = ap (λ (n : NodeState). n.kernel.over) (h.nodes m ∙ at_same (node_in b xs) m a.state)
 over_there b xs ys m outs (Some (Worn from to)) h = absurd h
 
 -- one more is kept, or none

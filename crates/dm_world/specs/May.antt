@@ -14,7 +14,7 @@ use Rattle.dm_schedule.specs.declared.Step.{Step}
 use Rattle.dm_schedule.specs.declared.Step.TheVariants as step
 use Rattle.dm_kernel.specs.Lawful.{IsLawfulState}
 use Rattle.dm_node.specs.May as node
-use Rattle.dm_world.specs.World.{WorldState}
+use Rattle.dm_world.specs.World.{WorldState, seat_of}
 
 -- the machine that a packet comes from
 abbrev pub sent_by : Packet → ℕ
@@ -30,10 +30,15 @@ abbrev pub MayDeliver : WorldState → ℕ → ℕ → Option (List ℕ) → Typ
 MayDeliver w a c None = ⊤
 MayDeliver w a c (Some bytes) = MayRead w a c (packet_of bytes)
 
+-- the machine where the manager is may be asked; where it is on its way, none is
+abbrev pub MayAskAt : WorldState → Option ℕ → Type 0
+MayAskAt w None = ⊤
+MayAskAt w (Some seat) = node.MayAskMove (w.nodes seat) × IsLawfulState (w.nodes seat).kernel
+
 -- the machines of the directive are machines of the boot file, and the machine that acts may do so
 abbrev pub MayStep : Boot → WorldState → Step → Type 0
 MayStep b w (step.Turn m) = (m < length b.machines) × node.MayTurn b (w.nodes m) × IsLawfulState (w.nodes m).kernel
 MayStep b w (step.Tick m) = (m < length b.machines) × node.MayAct (w.nodes m)
 MayStep b w (step.Deliver a c k) = (a < length b.machines) × (c < length b.machines) × (a ≢ c) × MayDeliver w a c (bytes_at (w.wires a c) k)
-MayStep b w (step.Migrate p m) = (m < length b.machines) × node.MayAskMove (w.nodes 0) × IsLawfulState (w.nodes 0).kernel
+MayStep b w (step.Migrate p m) = (m < length b.machines) × MayAskAt w (seat_of (length b.machines) w.nodes)
 MayStep b w (step.CallOff p m) = (m < length b.machines) × node.MayCallOff (w.nodes m) p × IsLawfulState (w.nodes m).kernel

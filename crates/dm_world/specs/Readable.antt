@@ -1,9 +1,10 @@
 -- What machines put on wires is read again as it was put.
-use Rattle.std.specs.Prelude.{◌≡◌, ⊤, ℕ, ◌≤◌, List, [], ◌∷◌}
+use Rattle.std.specs.Prelude.{◌≡◌, ⊤, ℕ, ◌≤◌, List, [], ◌∷◌, length}
 use Rattle.std.specs.declared.option.Option.{Option}
 use Rattle.std.specs.declared.option.Option.TheVariants.{None, Some}
 use Rattle.std.specs.declared.result.Result.{Result}
 use Rattle.std.specs.declared.result.Result.TheVariants.{Ok, Err}
+use Rattle.dm_link.specs.declared.Pid.{Pid}
 use Rattle.dm_message.specs.declared.Message.{Message}
 use Rattle.dm_stream.specs.Packets.{Data, Ack}
 use Rattle.dm_stream.specs.Sending.{Sending, given_count, outstanding}
@@ -20,7 +21,7 @@ use Rattle.dm_node.specs.declared.out.Out.{Out}
 use Rattle.dm_node.specs.declared.out.Out.TheVariants.{Says, Sends}
 use Rattle.dm_node.specs.Out.{Acts, Goes, Worn}
 use Rattle.dm_node.specs.Acts as node
-use Rattle.dm_world.specs.World.{WorldState}
+use Rattle.dm_world.specs.World.{WorldState, seat_of}
 
 -- what is out on a stream from machine a to machine c, and not acknowledged, is read as it was put
 pub record SenderReads (a c : ℕ) (s : Sending Message) : Type 0 where
@@ -60,9 +61,13 @@ abbrev pub gave_bytes : WorldState → ℕ → ℕ → Option (List ℕ) → Lis
 gave_bytes w a c None = []
 gave_bytes w a c (Some bytes) = gave_read w a c (packet_of bytes)
 
+abbrev pub gave_at : WorldState → Pid → ℕ → Option ℕ → List Out
+gave_at w p machine None = []
+gave_at w p machine (Some seat) = gave_some (node.asks_move (w.nodes seat) p machine)
+
 abbrev pub gave : Boot → WorldState → Step → List Out
 gave b w (step.Turn m) = gave_some (node.turn b (w.nodes m))
 gave b w (step.Tick m) = (node.tick (w.nodes m)).outs
 gave b w (step.Deliver a c k) = gave_bytes w a c (bytes_at (w.wires a c) k)
-gave b w (step.Migrate p m) = gave_some (node.asks_move (w.nodes 0) p m)
+gave b w (step.Migrate p m) = gave_at w p m (seat_of (length b.machines) w.nodes)
 gave b w (step.CallOff p m) = gave_some (node.calls_off (w.nodes m) p)

@@ -1,5 +1,5 @@
 -- All machines and the wires between them, and what a directive does.
-use Rattle.std.specs.Prelude.{ℕ, ◌+◌, if◌then◌else◌, List, [], ◌∷◌}
+use Rattle.std.specs.Prelude.{ℕ, zero, suc, ◌+◌, if◌then◌else◌, is_some, List, [], ◌∷◌, length}
 use Rattle.std.specs.declared.option.Option.{Option}
 use Rattle.std.specs.declared.option.Option.TheVariants.{None, Some}
 use Rattle.std.specs.declared.result.Result.{Result}
@@ -21,6 +21,9 @@ use Rattle.dm_schedule.specs.declared.Step.TheVariants as step
 use Rattle.dm_line.specs.declared.line.Line.{Line}
 use Rattle.dm_line.specs.declared.line.Line.TheVariants as line
 use Rattle.dm_line.specs.Sets.{at_machine}
+use Rattle.dm_line.specs.Todo.{or}
+use Rattle.dm_onekernel.specs.Boot.{manager}
+use Rattle.dm_kernel.specs.State.{manager_in}
 use Rattle.dm_node.specs.State.{NodeState, node_opened}
 use Rattle.dm_node.specs.Out.{Acted, Acts, Goes, Worn}
 use Rattle.dm_node.specs.Acts as node
@@ -83,12 +86,22 @@ abbrev pub delivers : WorldState → Step → ℕ → ℕ → ℕ → Option (Li
 delivers w e a c k None = Some (Says (record { state = record w { groups = w.groups + 1 }; lines = line.Head e ∷ line.Nothing ∷ [] }))
 delivers w e a c k (Some bytes) = reads (record w { wires = after_mark w.wires a c k }) e a c (packet_of bytes)
 
--- an elementary directive, a row each; the manager, which tells a process to move, is on machine 0
+-- the first of n machines that has the manager here
+abbrev pub seat_of : ℕ → (ℕ → NodeState) → Option ℕ
+seat_of zero nodes = None
+seat_of (suc n) nodes = or (seat_of n nodes) (if is_some (manager_in ((nodes n).kernel.records manager)) then Some n else None)
+
+-- the manager tells a process or a server to move on the machine where it is; while it is on its way nothing happens
+abbrev pub asks_at : WorldState → Step → Pid → ℕ → Option ℕ → Option Happened
+asks_at w e p machine None = Some (Says (record { state = record w { groups = w.groups + 1 }; lines = line.Head e ∷ line.Away ∷ [] }))
+asks_at w e p machine (Some seat) = turned w e seat (node.asks_move (w.nodes seat) p machine)
+
+-- an elementary directive, a row each
 abbrev pub world_step : Boot → WorldState → Step → Option Happened
 world_step b w (step.Turn m) = turned (keeps_over w (node.turn b (w.nodes m))) (step.Turn m) m (node.turn b (w.nodes m))
 world_step b w (step.Tick m) = Some (Says (acted w (step.Tick m) m (node.tick (w.nodes m))))
 world_step b w (step.Deliver a c k) = delivers w (step.Deliver a c k) a c k (bytes_at (w.wires a c) k)
-world_step b w (step.Migrate p m) = turned w (step.Migrate p m) 0 (node.asks_move (w.nodes 0) p m)
+world_step b w (step.Migrate p m) = asks_at w (step.Migrate p m) p m (seat_of (length b.machines) w.nodes)
 world_step b w (step.CallOff p m) = turned w (step.CallOff p m) m (node.calls_off (w.nodes m) p)
 
 -- the world as the boot file has it

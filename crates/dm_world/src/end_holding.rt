@@ -1,15 +1,15 @@
-//! The messages that machines hold at the end of a run for processes that leave or come.
+//! The messages that machines hold at the end of a run for processes and servers that leave or come.
 ghost use Rattle.std.specs.Prelude.{◌≡◌, ◌<◌, ◌++◌, OnOk, length};
 ghost use Rattle.dm_records.specs.Records.{at};
 ghost use Rattle.dm_line.specs.Ends.{joined_below, home_with, list_line};
 ghost use Rattle.dm_line.specs.declared.end_line.EndLine.TheVariants as end;
-ghost use Rattle.dm_world.specs.Ends.{MayEnd, held_for, held_line, homes_with, names_of};
+ghost use Rattle.dm_world.specs.Ends.{MayEnd, held_for, held_line, held_lines, homes_with, names_of};
 ghost use Rattle.dm_world.specs.Meets.{IsWorld, world_state};
 
 use crate::end_messages::ids_of_held;
 use crate::world::World;
 use dm_line::end_line::EndLine;
-use dm_link::{FIRST_NUMBER, Pid};
+use dm_link::{FIRST_NUMBER, MANAGER, Pid, SWITCHBOARD};
 use dm_memory::{NoMemory, push};
 use dm_message::Message;
 use dm_node::Node;
@@ -22,8 +22,7 @@ impl World {
         requires world { IsWorld self.now }
         requires may { MayEnd (length self.now.boot.machines) (world_state self.now) }
         ensures { OnOk result (lines.new.items ≡ lines.old.items ++
-            joined_below (λ m. homes_with (world_state self.now) (held_line (world_state self.now) m) (length self.now.boot.machines))
-            (length self.now.boot.machines)) }
+            joined_below (held_lines (length self.now.boot.machines) (world_state self.now)) (length self.now.boot.machines)) }
     {
         for m in 0..self.machines() {
             self.say_holding_on(m, lines)?;
@@ -31,14 +30,16 @@ impl World {
         Ok(())
     }
 
-    /// What machine `m` holds, by the process's home and number.
+    /// What machine `m` holds: for the servers, and by the process's home and number.
     fn say_holding_on(&self, m: u8, lines: &mut Vec<EndLine>) -> Result<(), NoMemory>
         requires world { IsWorld self.now }
         requires may { MayEnd (length self.now.boot.machines) (world_state self.now) }
         requires within { m < length self.now.boot.machines }
         ensures { OnOk result (lines.new.items ≡ lines.old.items ++
-            homes_with (world_state self.now) (held_line (world_state self.now) m) (length self.now.boot.machines)) }
+            held_lines (length self.now.boot.machines) (world_state self.now) m) }
     {
+        self.say_held(m, SWITCHBOARD, lines)?;
+        self.say_held(m, MANAGER, lines)?;
         for home in 0..self.machines() {
             self.say_holding_of(m, home, lines)?;
         }
@@ -64,7 +65,7 @@ impl World {
         Ok(())
     }
 
-    /// What machine `m` holds for a process.
+    /// What machine `m` holds for a process or a server.
     fn say_held(&self, m: u8, pid: Pid, lines: &mut Vec<EndLine>) -> Result<(), NoMemory>
         requires world { IsWorld self.now }
         requires within { m < length self.now.boot.machines }
@@ -74,7 +75,7 @@ impl World {
     }
 }
 
-/// What a machine holds for a process.
+/// What a machine holds for a process or a server.
 fn say_held_here(
     node: &Node,
     machine: u8,

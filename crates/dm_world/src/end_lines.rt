@@ -1,16 +1,18 @@
 //! The lines at the end of a run.
 ghost use Rattle.std.specs.Prelude.{◌≡◌, ◌<◌, ◌≤◌, ◌+◌, ◌^◌, ◌++◌, IfOk, OnOk, length};
 ghost use Rattle.dm_records.specs.Records.{at};
+ghost use Rattle.dm_onekernel.specs.Boot.{IsValid};
+ghost use Rattle.dm_resident.specs.Residents as residents;
 ghost use Rattle.dm_node.specs.Meets as node;
 ghost use Rattle.dm_node.specs.Meets.{HasStreams};
 ghost use Rattle.dm_line.specs.Ends.{joined_below, home_with, list_line};
 ghost use Rattle.dm_line.specs.declared.end_line.EndLine.TheVariants as end;
-ghost use Rattle.dm_world.specs.Ends.{MayEnd, SaysSome, awaited_lines, end_lines, first_awaited, first_had, homes_with, living_lines, names_of, process_lines, queue_of, record_lines, record_queue, stream_line};
+ghost use Rattle.dm_world.specs.Ends.{MayEnd, SaysSome, awaited_lines, end_lines, first_awaited, first_had, homes_with, living_lines, names_of, process_lines, queue_of, record_lines, record_queue, resident_lines, stream_line};
 ghost use Rattle.dm_world.specs.Meets.{IsWorld, world_state};
 
 use crate::end_messages::{ids_of, ids_of_inbox, untaken_ids};
 use crate::end_process::{say_alive, say_arriving};
-use crate::end_servers::say_servers;
+use crate::end_servers::say_server;
 use crate::world::World;
 use dm_line::end_line::{EndLine, Standing};
 use dm_link::{FIRST_NUMBER, Pid};
@@ -18,7 +20,9 @@ use dm_lists::Queue;
 use dm_memory::{NoMemory, push};
 use dm_message::Message;
 use dm_node::Node;
+use dm_onekernel::Boot;
 use dm_records::Record;
+use dm_resident::Resident;
 use std::alloc::Global;
 
 impl World {
@@ -26,12 +30,12 @@ impl World {
     pub fn end_lines(&self) -> Result<Vec<EndLine>, NoMemory>
         requires world { IsWorld self.now }
         requires may { MayEnd (length self.now.boot.machines) (world_state self.now) }
-        ensures { IfOk result (λ lines. lines.items ≡ end_lines (length self.now.boot.machines) (world_state self.now)) }
+        ensures { IfOk result (λ lines. lines.items ≡ end_lines self.now.boot (world_state self.now)) }
     {
         let mut lines = Vec::new(self.alloc);
         push(&mut lines, EndLine::Final)?;
         self.say_processes(&mut lines)?;
-        say_servers(self.machine(0).kernel(), &mut lines)?;
+        self.say_servers(&mut lines)?;
         self.say_queues(&mut lines)?;
         self.say_holding(&mut lines)?;
         self.say_inboxes(&mut lines)?;
@@ -66,7 +70,7 @@ impl World {
         requires world { IsWorld self.now }
         requires may { MayEnd (length self.now.boot.machines) (world_state self.now) }
         ensures { OnOk result (lines.new.items ≡ lines.old.items ++
-            homes_with (world_state self.now) (process_lines (length self.now.boot.machines) (world_state self.now)) (length self.now.boot.machines)) }
+            homes_with (world_state self.now) (process_lines self.now.boot (world_state self.now)) (length self.now.boot.machines)) }
     {
         for home in 0..self.machines() {
             self.say_home(home, lines)?;
@@ -80,7 +84,7 @@ impl World {
         requires may { MayEnd (length self.now.boot.machines) (world_state self.now) }
         requires within { home < length self.now.boot.machines }
         ensures { OnOk result (lines.new.items ≡ lines.old.items ++
-            home_with (process_lines (length self.now.boot.machines) (world_state self.now)) home ((world_state self.now).nodes home).kernel.made) }
+            home_with (process_lines self.now.boot (world_state self.now)) home ((world_state self.now).nodes home).kernel.made) }
     {
         for place in 0..self.made(home) {
             let pid = Pid {
@@ -96,7 +100,7 @@ impl World {
     #[tactic(auto, unfolding(crate::specs::Meets::ended_in))]
     fn say_process(&self, pid: Pid, lines: &mut Vec<EndLine>) -> Result<(), NoMemory>
         requires { IsWorld self.now }
-        ensures { OnOk result (lines.new.items ≡ lines.old.items ++ process_lines (length self.now.boot.machines) (world_state self.now) pid) }
+        ensures { OnOk result (lines.new.items ≡ lines.old.items ++ process_lines self.now.boot (world_state self.now) pid) }
     {
         match self.ended.get(&pid) {
             Some(why) => push(lines, EndLine::Ended { pid, why: *why }),
@@ -104,10 +108,10 @@ impl World {
         }
     }
 
-    /// The lines of a process, by the first machine that has it, or else by the first that awaits it.
-    fn say_living(&self, pid: Pid, lines: &mut Vec<EndLine>) -> Result<(), NoMemory>
+    /// The lines of a process or a server, by the first machine that has it, or else by the first that awaits it.
+    pub(crate) fn say_living(&self, pid: Pid, lines: &mut Vec<EndLine>) -> Result<(), NoMemory>
         requires { IsWorld self.now }
-        ensures { OnOk result (lines.new.items ≡ lines.old.items ++ living_lines (length self.now.boot.machines) (world_state self.now) pid) }
+        ensures { OnOk result (lines.new.items ≡ lines.old.items ++ living_lines self.now.boot (world_state self.now) pid) }
     {
         if self.say_had(pid, lines)? {
             return Ok(());
@@ -116,7 +120,7 @@ impl World {
         Ok(())
     }
 
-    /// The lines of a process, by the first machine that has it; whether there is one.
+    /// The lines of a process or a server, by the first machine that has it; whether there is one.
     fn say_had(&self, pid: Pid, lines: &mut Vec<EndLine>) -> Result<bool, NoMemory>
         requires { IsWorld self.now }
         ensures { IfOk result (λ said. SaysSome said lines.old.items lines.new.items (first_had (length self.now.boot.machines) (world_state self.now) pid)) }
@@ -129,14 +133,14 @@ impl World {
         Ok(false)
     }
 
-    /// The lines of a process, by the first machine that awaits it; whether there is one.
+    /// The lines of a process or a server, by the first machine that awaits it; whether there is one.
     fn say_awaited(&self, pid: Pid, lines: &mut Vec<EndLine>) -> Result<bool, NoMemory>
         requires { IsWorld self.now }
         ensures { IfOk result (λ said. SaysSome said lines.old.items lines.new.items
-            (first_awaited (length self.now.boot.machines) (world_state self.now) pid)) }
+            (first_awaited self.now.boot (world_state self.now) pid)) }
     {
         for m in 0..self.machines() {
-            if say_expected(self.machine(m), m, pid, lines)? {
+            if say_expected(self.machine(m), m, &self.boot, pid, lines)? {
                 return Ok(true);
             }
         }
@@ -242,20 +246,37 @@ impl World {
     }
 }
 
-/// The lines of a process on machine `m`, if it says something of it; whether it does.
+/// The lines of a process or a server on machine `m`, if it says something of it; whether it does.
 fn say_known(node: &Node, m: u8, pid: Pid, lines: &mut Vec<EndLine>) -> Result<bool, NoMemory>
     ensures { IfOk result (λ said. SaysSome said lines.old.items lines.new.items (record_lines m pid (at node.now.kernel.records pid))) }
 {
     match node.kernel().records().get(pid) {
-        Some(Record::Here(process)) => {
-            say_alive(m, pid, Standing::Here, process, lines)?;
+        Some(Record::Here(resident)) => {
+            say_resident(m, pid, Standing::Here, resident, lines)?;
             Ok(true)
         }
         Some(Record::Frozen(leaving)) => {
-            say_alive(m, pid, Standing::Leaving, leaving.process(), lines)?;
+            say_resident(m, pid, Standing::Leaving, leaving.resident(), lines)?;
             Ok(true)
         }
         _ => Ok(false),
+    }
+}
+
+/// The lines of a process or a server that machine `m` has.
+pub(crate) fn say_resident(
+    m: u8,
+    pid: Pid,
+    standing: Standing,
+    resident: &Resident,
+    lines: &mut Vec<EndLine>,
+) -> Result<(), NoMemory>
+    ensures { OnOk result (lines.new.items ≡ lines.old.items ++ resident_lines m pid standing resident.now) }
+{
+    match resident {
+        Resident::Process(process) => say_alive(m, pid, standing, process, lines),
+        Resident::Board(board) => say_server(m, pid, standing, board.sent(), lines),
+        Resident::Manager(manager) => say_server(m, pid, standing, manager.sent(), lines),
     }
 }
 
@@ -264,15 +285,33 @@ fn say_known_queue(node: &Node, pid: Pid, lines: &mut Vec<EndLine>) -> Result<bo
     ensures { IfOk result (λ said. SaysSome said lines.old.items lines.new.items (record_queue pid (at node.now.kernel.records pid))) }
 {
     match node.kernel().records().get(pid) {
-        Some(Record::Here(process)) => {
-            say_messages(node.alloc(), pid, process.queue.messages(), lines)?;
+        Some(Record::Here(resident)) => {
+            say_waiting(node.alloc(), pid, resident, lines)?;
             Ok(true)
         }
         Some(Record::Frozen(leaving)) => {
-            say_messages(node.alloc(), pid, leaving.process().queue.messages(), lines)?;
+            say_waiting(node.alloc(), pid, leaving.resident(), lines)?;
             Ok(true)
         }
         _ => Ok(false),
+    }
+}
+
+/// The messages that wait for a process; a server has no queue.
+fn say_waiting(
+    alloc: Global,
+    pid: Pid,
+    resident: &Resident,
+    lines: &mut Vec<EndLine>,
+) -> Result<(), NoMemory>
+    ensures { OnOk result (lines.new.items ≡ lines.old.items ++ list_line (end.Queue pid) (names_of (residents.queue_of resident.now))) }
+{
+    match resident.process() {
+        Some(process) => {
+            say_messages(alloc, pid, process.queue.messages(), lines)?;
+            Ok(())
+        }
+        None => Ok(()),
     }
 }
 
@@ -292,12 +331,21 @@ fn say_messages(
     Ok(())
 }
 
-/// The lines of a process that comes to this machine; whether there are any.
-fn say_expected(node: &Node, m: u8, pid: Pid, lines: &mut Vec<EndLine>) -> Result<bool, NoMemory>
-    ensures { IfOk result (λ said. SaysSome said lines.old.items lines.new.items (awaited_lines m pid (at node.now.kernel.records pid))) }
+/// The lines of a process or a server that comes to this machine; whether there are any.
+fn say_expected(
+    node: &Node,
+    m: u8,
+    boot: &Boot,
+    pid: Pid,
+    lines: &mut Vec<EndLine>,
+) -> Result<bool, NoMemory>
+    requires { IsValid boot.now }
+    ensures { IfOk result (λ said. SaysSome said lines.old.items lines.new.items (awaited_lines boot.now m pid (at node.now.kernel.records pid))) }
 {
     match node.kernel().records().get(pid) {
-        Some(Record::Incoming(arriving)) => { say_arriving(node.alloc(), m, pid, arriving, lines) }
+        Some(Record::Incoming(arriving)) => {
+            say_arriving(node.alloc(), m, boot, pid, arriving, lines)
+        }
         _ => Ok(false),
     }
 }

@@ -1,16 +1,20 @@
 //! The lines of a process at the end of a run.
-ghost use Rattle.std.specs.Prelude.{◌≡◌, ◌≤◌, ◌++◌, ◌/◌, IfOk, OnOk, length, take};
+ghost use Rattle.std.specs.Prelude.{◌≡◌, ◌≤◌, ◌++◌, ◌/◌, IfOk, OnOk, length, take, true};
 ghost use Rattle.dm_line.specs.Ends.{block_line, memory_lines, trimmed};
 ghost use Rattle.dm_line.specs.declared.end_line.Standing.TheVariants as standing_;
-ghost use Rattle.dm_migrate.specs.Arrival.{revived};
+ghost use Rattle.dm_migrate.specs.Arrival.{restarted, revived};
+ghost use Rattle.dm_onekernel.specs.Boot.{IsValid};
 ghost use Rattle.dm_world.specs.Ends.{SaysSome, alive_lines, come_lines, come_whole, doing_of, link_lines, parts_lines};
 
+use crate::end_lines::say_resident;
+use crate::end_servers::server_of;
 use arrayvec::ArrayVec;
 use dm_line::end_line::{Doing, EndLine, Standing};
 use dm_link::Pid;
 use dm_linktable::Table;
 use dm_memory::{NoMemory, push};
 use dm_migrate::{Arriving, Wanted};
+use dm_onekernel::Boot;
 use dm_process::{Process, Status};
 use dm_processor::{BLOCK, Memory, Regs};
 use dm_statebytes::Shell;
@@ -40,25 +44,49 @@ pub fn say_alive(
     say_parts(pid, &process.regs, &process.memory, &process.table, lines)
 }
 
-/// The lines of a process that comes to machine `m`, if all of it has come; whether it has.
+/// The lines of a process or a server that comes to machine `m`, if all of it has come; whether it has.
 pub fn say_arriving(
     alloc: Global,
     m: u8,
+    boot: &Boot,
     pid: Pid,
     arriving: &Arriving,
     lines: &mut Vec<EndLine>,
 ) -> Result<bool, NoMemory>
-    ensures { IfOk result (λ said. SaysSome said lines.old.items lines.new.items (come_lines m pid (come_whole arriving.now arriving.now.wanted))) }
+    requires { IsValid boot.now }
+    ensures { IfOk result (λ said. SaysSome said lines.old.items lines.new.items (come_lines m pid (come_whole boot.now arriving.now arriving.now.wanted))) }
 {
     match arriving.wanted() {
         Wanted::Nothing => {
-            let table = Table::new(alloc, arriving.cap())?;
-            say_come(m, pid, &arriving.shell(table), arriving.memory(), lines)?;
+            say_arrived(alloc, m, boot, pid, arriving, lines)?;
             Ok(true)
         }
         Wanted::Chunk(_) => Ok(false),
         Wanted::Block(_) => Ok(false),
     }
+}
+
+/// The lines of a process or a server of which all has come to machine `m`.
+fn say_arrived(
+    alloc: Global,
+    m: u8,
+    boot: &Boot,
+    pid: Pid,
+    arriving: &Arriving,
+    lines: &mut Vec<EndLine>,
+) -> Result<(), NoMemory>
+    requires boot { IsValid boot.now }
+    requires whole { arriving.now.wanted ≡ Wanted.Nothing }
+    ensures { OnOk result (SaysSome true lines.old.items lines.new.items (come_lines m pid (restarted (length boot.now.machines) (length boot.now.images) arriving.now))) }
+{
+    if arriving.is_process() {
+        let table = Table::new(alloc, arriving.cap())?;
+        say_come(m, pid, &arriving.shell(table), arriving.memory(), lines)?;
+        return Ok(());
+    }
+    let server = server_of(boot, arriving)?;
+    say_resident(m, pid, Standing::Arriving, &server, lines)?;
+    Ok(())
 }
 
 /// The lines of a process that has come to machine `m` and isn't served yet.

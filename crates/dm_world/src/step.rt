@@ -1,8 +1,9 @@
 //! What a directive does.
-ghost use Rattle.std.specs.Prelude.{◌≡◌, ◌<◌, ◌+◌, ◌^◌, ◌∷◌, ℕ, IfOk, IfSome, IsOk, OnErr, OnOk, None, Ok, Some, [], false, length, option_map, true};
+ghost use Rattle.std.specs.Prelude.{◌≡◌, ◌<◌, ◌≤◌, ◌+◌, ◌^◌, ◌∷◌, ℕ, IfOk, IfSome, IsOk, OnErr, OnOk, None, Ok, Some, [], false, length, option_map, true};
 ghost use Rattle.std.specs.List.{All};
 ghost use Rattle.dm_link.specs.declared.Pid.{Pid as ThePid};
 ghost use Rattle.dm_onekernel.specs.Boot.{images_are_valid};
+ghost use Rattle.dm_onekernel.specs.declared.boot.Boot.{Boot as TheBoot};
 ghost use Rattle.dm_packet.specs.Packets.{packet_of};
 ghost use Rattle.dm_schedule.specs.declared.Step.TheVariants as directive;
 ghost use Rattle.dm_wire.specs.Sent.{bytes_at};
@@ -20,7 +21,7 @@ ghost use Rattle.dm_world.specs.May.{MayDeliver, MayStep};
 ghost use Rattle.dm_world.specs.Meets.{ActedAt, AreNodes, IsSendable, IsWorld, TurnAnswers, ended_in, node_in, world_state};
 ghost use Rattle.dm_world.specs.Readable.{AreReadBack};
 ghost use Rattle.dm_world.specs.Stepped.{StepMeets};
-ghost use Rattle.dm_world.specs.World.{with_over};
+ghost use Rattle.dm_world.specs.World.{with_over, seat_of};
 
 use crate::speak::speak;
 use crate::world::World;
@@ -44,7 +45,7 @@ impl World {
         requires may { MayStep self.old.boot (world_state self.old) step.now }
         requires groups { self.old.groups < 2 ^ 127 }
         ensures meets { StepMeets self.old self.new step.now result }
-        ensures alone { OnOk result (ActsAlone (acts_on step.now) (world_state self.old) (world_state self.new)) }
+        ensures alone { OnOk result (ActsAlone (acts_on self.old.boot (world_state self.old) step.now) (world_state self.old) (world_state self.new)) }
         ensures running { OnOk result (self.new.stopped ≡ false) }
         ensures stopped { OnErr result (self.new.stopped ≡ true) }
     {
@@ -101,7 +102,8 @@ impl World {
         Ok(())
     }
 
-    /// The manager, on machine 0, is asked to have a process move.
+    /// The manager is asked to have a process or a server move, on the machine where it is here; while it is on its way nothing
+    /// happens.
     fn ask_move(&mut self, pid: Pid, to: u8) -> Result<Vec<Line>, Stop>
         requires world { IsWorld self.old }
         requires may { MayStep self.old.boot (world_state self.old) (directive.Migrate pid to) }
@@ -109,8 +111,39 @@ impl World {
         ensures meets { StepMeets self.old self.new (directive.Migrate pid to) result }
         ensures stopped { self.new.stopped ≡ self.old.stopped }
     {
+        match seat_of(&self.nodes) {
+            Some(seat) => self.ask_move_at(seat, pid, to),
+            None => self.say_away(pid, to),
+        }
+    }
+
+    /// The manager is on its way: nothing is told to move.
+    fn say_away(&mut self, pid: Pid, to: u8) -> Result<Vec<Line>, Stop>
+        requires world { IsWorld self.old }
+        requires away { seat_of (length self.old.boot.machines) (node_in self.old.boot self.old.nodes.items) ≡ None }
+        requires groups { self.old.groups < 2 ^ 127 }
+        ensures meets { StepMeets self.old self.new (directive.Migrate pid to) result }
+        ensures stopped { self.new.stopped ≡ self.old.stopped }
+    {
+        let lines = list_of(
+            self.alloc,
+            [Line::Head(Step::Migrate { pid, to }), Line::Away],
+        )?;
+        self.groups += 1;
+        Ok(lines)
+    }
+
+    /// The manager is asked to have a process or a server move, on the machine where it is.
+    fn ask_move_at(&mut self, seat: u8, pid: Pid, to: u8) -> Result<Vec<Line>, Stop>
+        requires world { IsWorld self.old }
+        requires seat { seat_of (length self.old.boot.machines) (node_in self.old.boot self.old.nodes.items) ≡ Some seat }
+        requires may { MayStep self.old.boot (world_state self.old) (directive.Migrate pid to) }
+        requires groups { self.old.groups < 2 ^ 127 }
+        ensures meets { StepMeets self.old self.new (directive.Migrate pid to) result }
+        ensures stopped { self.new.stopped ≡ self.old.stopped }
+    {
         let empty = emptied(self.alloc, &mut self.outs);
-        let outs = ask_manager(empty, &mut self.nodes, &self.boot, pid, to)?;
+        let outs = ask_manager(empty, &mut self.nodes, &self.boot, seat, pid, to)?;
         let lines = self.group(Step::Migrate { pid, to }, outs)?;
         Ok(lines)
     }
@@ -250,25 +283,39 @@ fn place_of(m: u8) -> usize
     usize::from(m)
 }
 
-/// Machine 0 is asked to have a process move; what it gives.
+/// The machine where the manager is here, if it is here on one.
+fn seat_of(nodes: &[Node]) -> Option<u8>
+    requires { length nodes.now ≤ MACHINES }
+    ensures { (b : TheBoot) → result ≡ seat_of (length nodes.now) (node_in b nodes.now) }
+{
+    for place in 0..nodes.len() {
+        if nodes[place].kernel().has_manager() {
+            return Some(place as u8);
+        }
+    }
+    None
+}
+
+/// Machine `m`, where the manager is, is asked to have a process or a server move; what it gives.
 fn ask_manager(
     empty: Vec<Out>,
     nodes: &mut [Node],
     boot: &Boot,
+    m: u8,
     pid: Pid,
     to: u8,
 ) -> Result<Vec<Out>, Stop>
     requires empty { empty.items ≡ [] }
-    requires within { 0 < length nodes.old }
+    requires within { m < length nodes.old }
     requires nodes { AreNodes nodes.old }
-    requires may { MayAskMove (node_in boot.now nodes.old 0) }
+    requires may { MayAskMove (node_in boot.now nodes.old m) }
     requires to { to < MACHINES }
-    requires lawful { IsLawfulState (node_in boot.now nodes.old 0).kernel }
-    ensures answers { TurnAnswers result boot.now nodes.old nodes.new 0 (node.asks_move (node_in boot.now nodes.old 0) pid to) }
+    requires lawful { IsLawfulState (node_in boot.now nodes.old m).kernel }
+    ensures answers { TurnAnswers result boot.now nodes.old nodes.new m (node.asks_move (node_in boot.now nodes.old m) pid to) }
     ensures outs { IfOk result (λ outs. All IsSendable outs.items) }
 {
     let mut outs = empty;
-    match nodes[0].ask_move(pid, to, &mut outs) {
+    match nodes[place_of(m)].ask_move(pid, to, &mut outs) {
         Ok(()) => Ok(outs),
         Err(stop) => Err(stop),
     }

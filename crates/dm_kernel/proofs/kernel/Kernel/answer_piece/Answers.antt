@@ -1,13 +1,13 @@
 -- The record is set, and the predecessors stay.
-use Rattle.dm_kernel.proofs.Names.{◌≡◌, ◌∙◌, rules, ap, sym, Some, option_copied_mut, at, here_of}
+use Rattle.dm_kernel.proofs.Names.{◌≡◌, ◌∙◌, rules, ap, sym, Some, option_copied_mut, at, process_in}
 use Rattle.dm_kernel.proofs.Known.{has_some}
 use Rattle.dm_kernel.proofs.kernel.Kernel.answer_piece.Goals as goal
 
 pub returns : goal.returns
 returns c =
     let x = c.unwrap-process.result.now in
-    let was : here_of (at c.args.self.now.records c.args.message.now.to.pid) ≡ Some x = sym c.here_mut.ensures.value ∙ ap option_copied_mut c.unwrap-process.ensures in
-    let set = c.here_mut.follows.holds c.serve.new.process (has_some _ x was) in
+    let was : process_in (at c.args.self.now.records c.args.message.now.to.pid) ≡ Some x = sym c.process_mut.ensures.value ∙ ap option_copied_mut c.unwrap-process.ensures in
+    let set = c.process_mut.follows.holds c.serve.new.process (has_some _ x was) in
     let records = set.0 in
     let preds = set.1 in
     search rules

@@ -16,6 +16,5 @@ returns-in-Err c =
       made = refl;
       sent = refl;
       room = refl;
-      servers = refl;
       over = refl;
     })

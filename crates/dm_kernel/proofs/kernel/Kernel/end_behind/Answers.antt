@@ -1,6 +1,7 @@
 -- The process that is here is taken out, and its predecessors are told behind its queue.
-use Rattle.dm_kernel.proofs.Names.{◌≡◌, ◌∙◌, ℕ, ◌*◌, ◌/◌, ◌++◌, List, length, ap, sym, refl, subst, arith, Some, OnOk, at, here_of, has, kernel_state, Process, Message, Part, Taken, IsIn, after_end, ends_with, drops, blocks_of, with_released}
+use Rattle.dm_kernel.proofs.Names.{◌≡◌, ◌∙◌, ℕ, ◌*◌, ◌/◌, ◌++◌, List, length, ap, sym, refl, subst, arith, Some, OnOk, at, process_in, has, kernel_state, Process, Message, Part, Taken, IsIn, bind, here_of, process_of, after_end, ends_with, drops, blocks_of, with_released}
 use Rattle.dm_kernel.proofs.Burying.{is_without, parts_after, state_after}
+use Rattle.dm_kernel.proofs.Standing.{process_by}
 use Rattle.dm_kernel.proofs.kernel.Kernel.end_behind.Goals as goal
 
 same_one : (x y : Process) → Some x ≡ Some y → x ≡ y
@@ -14,7 +15,13 @@ returns-clause-state c = λ x e.
     let s = kernel_state c.args.self.now in
     let p = c.args.pid in
     let y = c.unwrap-process.result in
-    let there : here_of (at c.args.self.now.records p) ≡ Some y = ap here_of (c.remove.ensures.before ∙ c.unwrap.ensures) ∙ sym c.into_here.ensures ∙ c.unwrap-process.ensures in
+    let there : process_in (at c.args.self.now.records p) ≡ Some y =
+    process_by (at c.args.self.now.records p)
+    ∙ ap (λ o. bind (here_of o) process_of) (c.remove.ensures.before ∙ c.unwrap.ensures)
+    ∙ ap (λ h. bind h process_of) (sym c.into_here.ensures ∙ c.unwrap-resident.ensures)
+    ∙ sym c.into_process.ensures
+    ∙ c.unwrap-process.ensures
+    in
     let room : c.release.new.self ≡ with_released s.room (blocks_of y) = c.release.ensures ∙ ap (with_released s.room) (as_many y.memory c.blocks-2.result c.blocks-2.ensures.all) in
     subst (λ (z : Process). OnOk c.tell_end.result (IsIn c.tell_end.new.self (after_end s p z c.args.why))) (same_one y x (sym there ∙ e))
     (state_after c.tell_end.result s _ p y c.args.why (has c.predecessors-predecessors.result) c.tell_end.new.self c.predecessors-predecessors.ensures
@@ -25,7 +32,13 @@ returns-clause-parts c = λ x e.
     let s = kernel_state c.args.self.now in
     let p = c.args.pid in
     let y = c.unwrap-process.result in
-    let there : here_of (at c.args.self.now.records p) ≡ Some y = ap here_of (c.remove.ensures.before ∙ c.unwrap.ensures) ∙ sym c.into_here.ensures ∙ c.unwrap-process.ensures in
+    let there : process_in (at c.args.self.now.records p) ≡ Some y =
+    process_by (at c.args.self.now.records p)
+    ∙ ap (λ o. bind (here_of o) process_of) (c.remove.ensures.before ∙ c.unwrap.ensures)
+    ∙ ap (λ h. bind h process_of) (sym c.into_here.ensures ∙ c.unwrap-resident.ensures)
+    ∙ sym c.into_process.ensures
+    ∙ c.unwrap-process.ensures
+    in
     subst (λ (z : Process). OnOk c.tell_end.result (c.tell_end.new.parts.items ≡ c.args.parts.now.items ++ ends_with s p z)) (same_one y x (sym there ∙ e))
     (parts_after c.tell_end.result s _ p y (has c.predecessors-predecessors.result) c.args.parts.now.items c.drop_all.new.parts.items c.tell_end.new.parts.items c.predecessors-predecessors.ensures refl refl
     (c.in_ok-drop_all.ensures ∙ ap (λ (ms : List Message). c.args.parts.now.items ++ drops ms) c.into_queue.ensures) c.tell_end.ensures.parts)

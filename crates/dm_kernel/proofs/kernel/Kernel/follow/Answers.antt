@@ -4,7 +4,7 @@ use Rattle.dm_kernel.proofs.kernel.Kernel.follow.Goals as goal
 
 pub returns : goal.returns
 returns c =
-    let set = c.here_mut.follows.holds c.apply-count.new.process c.requires in
+    let set = c.process_mut.follows.holds c.apply-count.new.process c.requires in
     let records = set.0 in
     let preds = set.1 in
     search rules

@@ -4,7 +4,7 @@ use Rattle.dm_kernel.proofs.kernel.Kernel.is_runnable.Goals as goal
 
 pub returns-in-Some : goal.returns-in-Some
 returns-in-Some c =
-    c.is_runnable.ensures ∙ sym (here_runs (at c.args.self.now.records c.args.pid) c.in-Some.process.now (sym c.here.ensures ∙ ap option_copied c.in-Some.is))
+    c.is_runnable.ensures ∙ sym (here_runs (at c.args.self.now.records c.args.pid) c.in-Some.process.now (sym c.process.ensures ∙ ap option_copied c.in-Some.is))
 
 pub returns-in-None : goal.returns-in-None
-returns-in-None c = sym (none_runs (at c.args.self.now.records c.args.pid) (sym c.here.ensures ∙ ap option_copied c.in-None.is))
+returns-in-None c = sym (none_runs (at c.args.self.now.records c.args.pid) (sym c.process.ensures ∙ ap option_copied c.in-None.is))

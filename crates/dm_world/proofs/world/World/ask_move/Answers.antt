@@ -1,23 +1,17 @@
-use Rattle.dm_world.proofs.Names.{ended_in, rules, ap, ◌∙◌, asks_move, node_in}
-use Rattle.dm_schedule.specs.declared.Step.TheVariants as step
-use Rattle.dm_world.proofs.Rereading.{turn_back}
-use Rattle.dm_world.proofs.Stepping.{acted_size, turn_stepped, turn_world, written}
+use Rattle.dm_world.proofs.Names.{length, arith, ap, Some, None}
+use Rattle.dm_world.proofs.Nodes.{few_machines}
+use Rattle.dm_world.proofs.Seats.{seat_here}
 use Rattle.dm_world.proofs.world.World.ask_move.Goals as goal
 
-pub returns-clause-meets : goal.returns-clause-meets
-returns-clause-meets c =
-    let old = c.args.self.now in
-    let now = c.group.new.self in
-    let ys = c.ask_manager.new.nodes in
-    let outs = c.in_ok-outs.outs.items in
-    let o = asks_move (node_in old.boot old.nodes.items 0) c.args.pid c.args.to in
-    let acts = rw c.deref_mut.ensures.value at c.in_ok-outs.ensures.answers in
-    let are = ap (λ v. v.items) c.group.ensures.nodes ∙ written old.nodes ys (acted_size old.boot old.nodes.items ys 0 outs o acts) in
-    record {
-      answers = turn_stepped old now ys (ended_in old.ended) (step.Migrate c.args.pid c.args.to) 0 outs c.in_ok-lines.lines.items o acts are
-          (record { lines = c.in_ok-lines.ensures.lines; wires = c.in_ok-lines.ensures.wires; ended = λ p. ap (λ kept. ended_in kept p) c.group.ensures.ended; groups = c.in_ok-lines.ensures.groups; boot = c.group.ensures.boot });
-      world = turn_world old now ys 0 outs o c.requires.world acts are c.group.ensures.boot;
-      again = turn_back old.boot old.nodes.items ys 0 outs o acts c.in_ok-lines.ensures.again;
-      whole = tt;
-      boot = search rules;
-    }
+pub seat_of-requires : goal.seat_of-requires
+seat_of-requires c =
+    let few = few_machines c.args.self.now c.requires.world in
+    let size = c.requires.world.machines in
+    let same = ap length c.deref.ensures.value in
+    omega (arith, few, size, same)
+
+pub ask_move_at-requires-clause-seat : goal.ask_move_at-requires-clause-seat
+ask_move_at-requires-clause-seat c = seat_here c.args.self.now c.deref.result.now (Some c.in-Some.seat) c.requires.world c.deref.ensures.value (c.in-Some.ensures c.args.self.now.boot)
+
+pub say_away-requires-clause-away : goal.say_away-requires-clause-away
+say_away-requires-clause-away c = seat_here c.args.self.now c.deref.result.now None c.requires.world c.deref.ensures.value (c.in-None.ensures c.args.self.now.boot)

@@ -6,15 +6,15 @@ pub returns-then-branch : goal.returns-then-branch
 returns-then-branch c =
     let m = c.loop-m.m in
     let n = length c.args.self.now.boot.machines in
-    let f : ℕ → Option (List EndLine) = λ m. awaited_lines m c.args.pid (((world_state c.args.self.now).nodes m).kernel.records c.args.pid) in
+    let f : ℕ → Option (List EndLine) = λ m. awaited_lines c.args.self.now.boot m c.args.pid (((world_state c.args.self.now).nodes m).kernel.records c.args.pid) in
     let within : m < n = grind (arith, c.loop-m-test.true, c.machines-m-end.ensures.all) in
     found_some f m n c.in_ok-say_expected.field-0 _ c.args.lines.now.items c.loop-m.lines.items c.say_expected.new.lines.items c.loop-m.invariant.none within
-    (ap (λ (s : NodeState). awaited_lines m c.args.pid (s.kernel.records c.args.pid)) c.machine.ensures.state) c.if-branch.true c.loop-m.invariant.same c.in_ok-say_expected.ensures
+    (ap (λ (s : NodeState). awaited_lines c.args.self.now.boot m c.args.pid (s.kernel.records c.args.pid)) c.machine.ensures.state) c.if-branch.true c.loop-m.invariant.same c.in_ok-say_expected.ensures
 
 pub loop-m-preserved : goal.loop-m-preserved
 loop-m-preserved c =
     let m = c.loop-m.m in
-    let f : ℕ → Option (List EndLine) = λ m. awaited_lines m c.args.pid (((world_state c.args.self.now).nodes m).kernel.records c.args.pid) in
+    let f : ℕ → Option (List EndLine) = λ m. awaited_lines c.args.self.now.boot m c.args.pid (((world_state c.args.self.now).nodes m).kernel.records c.args.pid) in
     let none = still_none f m c.in_ok-say_expected.field-0 _ c.args.lines.now.items c.loop-m.lines.items c.say_expected.new.lines.items c.loop-m.invariant.none
-    (ap (λ (s : NodeState). awaited_lines m c.args.pid (s.kernel.records c.args.pid)) c.machine.ensures.state) c.if-branch.false c.loop-m.invariant.same c.in_ok-say_expected.ensures in
+    (ap (λ (s : NodeState). awaited_lines c.args.self.now.boot m c.args.pid (s.kernel.records c.args.pid)) c.machine.ensures.state) c.if-branch.false c.loop-m.invariant.same c.in_ok-say_expected.ensures in
     record { none = none.0; same = none.1 }
