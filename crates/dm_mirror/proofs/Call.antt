@@ -1,19 +1,20 @@
 -- A machine calls off what is on its way to it: what was held for it goes back, and the kernel that it comes from is told; or a line says that there is nothing to call off.
 use Rattle.dm_mirror.proofs.Names.{◌≡◌, ◌≢◌, ◌⊎◌, ℕ, ◌+◌, ◌/◌, ◌≤◌, ◌==◌, ◌&&◌, Bool, true, false, not, List, [], ◌∷◌, ◌++◌, length, map, refl, ap, ◌∙◌, sym, subst, inl, inr, arith, if◌then◌else◌, option_map, Option, None, Some, cases_Bool}
-use Rattle.dm_mirror.proofs.Names.{false≢true, nat_tests, Pid, pid_eq, pid_eq-same, kernel_at, Message, MsgId, What, MessageKind, Record, Line, Process, plain_process, Boot, incoming_of, Arrival, KernelState, own, turned, Step, Cargo}
-use Rattle.dm_mirror.proofs.Names.{to_kernel, sends_on, Point, moved, Room, blocks_of, taken_at, taken_by, takes_room, at_machine, at_record, Spot, Queue, Held, Inbox, Untaken, standing, times, Known, Incoming, Forward, Of, own_id, Run}
-use Rattle.dm_mirror.proofs.Names.{Placed, Mirrors, MirrorsPoint, MadeStands, mirrors_view, sent_all, sent_on, AllOwnStand, ComesStand, KnownStands, KernelStands, AllRecords, is_server, is_among, among_times, letters, held_plain}
+use Rattle.dm_mirror.proofs.Names.{false≢true, nat_tests, Pid, pid_eq, pid_eq-same, kernel_at, Message, MsgId, What, MessageKind, Record, Line, Boot, incoming_of, Arrival, KernelState, own, turned, Step, Cargo}
+use Rattle.dm_mirror.proofs.Names.{to_kernel, sends_on, Point, moved, taken_at, takes_room, room_of, RoomStands, at_machine, Spot, Queue, Held, Inbox, Untaken, standing, times, Known, Incoming, Forward, Of, own_id, Run}
+use Rattle.dm_mirror.proofs.Names.{Placed, Mirrors, MirrorsPoint, MadeStands, mirrors_view, sent_all, sent_on, AllOwnStand, ComesStand, KnownStands, KernelStands, AllRecords, Resident, CanBeCarried, IsSuch, at_record, resident_at, slice_get, is_among, among_times, letters, held_plain}
 use Rattle.dm_mirror.proofs.Names.{StandsAsBag-elsewhere, eq_self, Part, calls_arriving_off, calls_off, is_not_called, turns_back, without_arriving, all_sent_back, is_whole, called_mirrors, goes_back, times-append, is_waited_from}
 use Rattle.dm_mirror.proofs.Names.{with_sent}
 use Rattle.dm_mirror.proofs.Cargoes.{is_cargo_of}
 use Rattle.dm_mirror.proofs.Recorded.{recorded}
 use Rattle.dm_mirror.proofs.LeftOver.{cargo_named, come_is, record_apart, record_kept, tokens_called, tokens_less}
 use Rattle.dm_mirror.proofs.Turning.{NoneEnds, own_first, AllMayPut, MayOwn, MayPut, Nothing, On, Own, Route, Turns, IsCarried, IsLeftOver, is_elsewhere, part_of, rule_part_of}
-use Rattle.dm_mirror.proofs.Rooms.{taken_changed}
 use Rattle.dm_mirror.proofs.Leave.Fronts.{Present, absent_next, may_between, own_stays, records_as, untold_next}
-use Rattle.dm_mirror.proofs.Leave.Goes.{all_may, life_some, on_length, on_may, on_rule_parts, own_on, room_released, times_among}
-use Rattle.dm_mirror.proofs.Handle.Taking.{map_same, pid_apart, record_self, record_off, record_others, stands_set}
-use Rattle.dm_onekernel.specs.Step as kernel
+use Rattle.dm_mirror.proofs.Leave.Goes.{all_may, on_length, on_may, on_rule_parts, own_on, room_left, times_among}
+use Rattle.dm_mirror.proofs.Handle.Taking.{map_same, record_self, record_off, record_others, stands_set}
+use Rattle.dm_migrate.specs.Rooms.{room_without}
+use Rattle.dm_resident.specs.Residents as residents
+use Rattle.dm_mirror.proofs.Residents.{blocks_queue, here_bare, resident_is, same_manager, same_system}
 use Rattle.dm_kernel.specs.State as machine
 use Rattle.dm_rule.specs.Migrating as migrating
 use Rattle.dm_rule.specs.Parts as rule
@@ -29,20 +30,21 @@ Calls b m pt l records k p = Turns b m (Step.CallOff p m) (calls_off k p) pt (ca
 
 -- What comes to a machine bears its process's name, has moved as often and takes its blocks.
 pub record ComingFits (pt : Point) (l : Placed) (p : Pid) (a : Arrival) : Type 0 where
-  pub process : Process
-  pub there : l.processes p ≡ Some process
+  pub resident : Resident
+  pub there : resident_at l p ≡ Some resident
   pub pid : a.pid ≡ p
   pub moves : a.moves ≡ pt.view.moves p
-  pub blocks : a.blocks ≡ length process.memory / 256
+  pub blocks : a.blocks ≡ residents.blocks_of resident
 
 pub coming_fits : (pt : Point) (l : Placed) (p : Pid) (from : ℕ) (held : List MsgId) (a : Arrival) → Mirrors pt.kernel pt.view pt.addresses l → ComesStand l p from held a → ComingFits pt l p a
 coming_fits pt l p from held a mirrors h =
-    let of = is_cargo_of (l.processes p) (l.notes p) h.cargo h.there in
+    let of = is_cargo_of (resident_at l p) (l.notes p) h.cargo h.there in
+    let is = resident_is pt.kernel pt.view pt.addresses l p of.resident mirrors of.there in
     record {
-      process = of.process;
+      resident = of.resident;
       there = of.there;
       pid = ap (λ (z : Arrival). z.pid) h.pieces ∙ cargo_named pt l p h.cargo mirrors h.there;
-      moves = ap (λ (z : Arrival). z.moves) h.pieces ∙ ap (λ (c : Cargo). c.moves) (sym of.is) ∙ (mirrors.places.process p of.process of.there).moves;
+      moves = ap (λ (z : Arrival). z.moves) h.pieces ∙ ap (λ (c : Cargo). c.moves) (sym of.is) ∙ is.moves;
       blocks = ap (λ (z : Arrival). z.blocks) h.pieces ∙ ap (λ (c : Cargo). length c.memory / 256) (sym of.is);
     }
 
@@ -54,9 +56,6 @@ coming_by l p queue held _ a h = absurd h
 abbrev expects : Known → Bool
 expects (Incoming from) = true
 expects _ = false
-
-comes_no_server : (b : Boot) (pt : Point) (m from : ℕ) (p : Pid) → Run b pt → pt.view.known m p ≡ Incoming from → is_server p ≡ false
-comes_no_server b pt m from p run known = grind (arith, nat_tests)
 
 -- A line says that there is nothing to call off.
 none_called : (b : Boot) (m : ℕ) (pt : Point) (l : Placed) (records : AllRecords) (k : KernelState) (p : Pid) → Present b m pt l records k → calls_off k p ≡ is_not_called k p → migrating.calls_off pt m p (pt.view.known m p) ≡ rule.Says (Line.NoCall p) ∷ [] → Calls b m pt l records k p
@@ -75,7 +74,7 @@ none_called b m pt l records k p h turn is =
       mirrors = mirrors_view pt.kernel pt.view start.view pt.addresses l refl h.mirrors;
       kernel = kernel_begun b m pt l k p h.stands;
       sent = λ e. e ∙ (let f : pt.view.count m ≡ pt.view.count m + (0 + 0) = omega arith in f);
-      elsewhere = search;
+      elsewhere = (let system = same_system l in search);
       may = tt;
       late_may = tt;
       over = NoneEnds refl (λ q. refl);
@@ -162,7 +161,6 @@ record IsComing (pt : Point) (l : Placed) (m : ℕ) (k : KernelState) (p : Pid) 
   known : pt.view.known m p ≡ Incoming from
   is : k.records p ≡ Some (Record.Incoming arrival)
   stands : ComesStand l p from (pt.view.held m p) arrival
-  server : is_server p ≡ false
 
 called : (b : Boot) (m : ℕ) (pt : Point) (l : Placed) (records : AllRecords) (k : KernelState) (p : Pid) → MadeStands pt.kernel → Present b m pt l records k → (c : IsComing pt l m k p) → is_whole c.arrival.wanted ≡ false → pt.view.come p ≡ false → Calls b m pt l records k p
 called b m pt l records k p made h c less come =
@@ -171,7 +169,7 @@ called b m pt l records k p made h c less come =
     let stands = c.stands in
     let from : ℕ = c.from in
     let fits = coming_fits pt l p from (v.held m p) a h.mirrors stands in
-    let x : Process = fits.process in
+    let x : Resident = fits.resident in
     let ids : List MsgId = v.held m p in
     let phases = h.run.based.phased.phases in
     let on : List Message = all_sent_back a in
@@ -191,19 +189,10 @@ called b m pt l records k p made h c less come =
     subst (KnownStands placed p (next.view.queue m p) (next.view.held m p) (next.view.known m p)) (sym forward_record)
     (subst (λ (r : Known). KnownStands placed p (next.view.queue m p) (next.view.held m p) r (Some (Record.Forward a.source a.moves))) (sym forward_known) (stands.source, fits.moves)) in
     let stays : (z : Spot) (j : MsgId) → z ≢ Held m p → 1 ≤ standing v j z → placed.bag j ≡ l.bag j = λ z j off least. bag_kept b pt m p l a.source a.moves z j h.run off least in
-    let alive : kernel.alive (pt.kernel.processes p) ≡ Some (plain_process x) = h.mirrors.plain.processes p ∙ ap (option_map plain_process) fits.there in
-    let some = life_some (pt.kernel.processes p) (plain_process x) alive in
     let others_known : (q : Pid) → pid_eq p q ≡ false → next.view.known m q ≡ v.known m q = λ q off. record_others v.known m p q forward off in
-    let taken = taken_changed pt next m p refl (λ r. refl) (made.home p some) (made.first p some) (made.below p some)
-    (λ q off. (let e = others_known q (pid_apart p q off) in (λ i. record { slots = takes_room (e i); blocks = if takes_room (e i) == 0 then 0 else blocks_of (kernel.alive (pt.kernel.processes q)) }))) in
-    let was : taken_by pt m p ≡ record { slots = 1; blocks = length x.memory / 256 } =
-    ap (λ (r : Known). record { slots = takes_room r; blocks = if takes_room r == 0 then 0 else blocks_of (kernel.alive (pt.kernel.processes p)) }) c.known ∙ ap (λ o. record { slots = 1; blocks = blocks_of o }) alive in
-    let is : taken_by next m p ≡ record { slots = 0; blocks = 0 } = ap (λ (r : Known). record { slots = takes_room r; blocks = if takes_room r == 0 then 0 else blocks_of (kernel.alive (next.kernel.processes p)) }) forward_known in
-    let now : Room = taken_at next m next.kernel.machines in
-    let before : Room = taken_at pt m pt.kernel.machines in
-    let slots : now.slots + 1 ≡ before.slots + 0 = ap (λ (r : Room). now.slots + r.slots) (sym was) ∙ taken.0 ∙ ap (λ (r : Room). before.slots + r.slots) is in
-    let blocks : now.blocks + a.blocks ≡ before.blocks + 0 =
-    ap (λ (r : ℕ). now.blocks + r) fits.blocks ∙ ap (λ (r : Room). now.blocks + r.blocks) (sym was) ∙ taken.1 ∙ ap (λ (r : Room). before.blocks + r.blocks) is in
+    let whole = subst (IsSuch (CanBeCarried a.cap l.manager.machines l.manager.images)) fits.there stands.whole in
+    let room = room_left pt next.view next.addresses m p l [] (residents.with_queue [] x) k.room _ (here_bare l p x fits.there) whole.0.lawful made h.mirrors.plain (ap takes_room c.known) (ap takes_room forward_known) others_known h.stands.room in
+    let blocks : residents.blocks_of (residents.with_queue [] x) ≡ a.blocks = blocks_queue [] x ∙ sym fits.blocks in
     let start_mirrors : MirrorsPoint start l = mirrors_view pt.kernel v start.view pt.addresses l refl h.mirrors in
     let next_mirrors : MirrorsPoint next placed =
     subst (λ (r : ℕ). MirrorsPoint next (sent_all l r a.moves ids)) (sym stands.source)
@@ -243,14 +232,14 @@ called b m pt l records k p made h c less come =
             queue = λ q off. refl;
             held = λ q off. record_others v.held m p q [] off;
             known = others_known;
-            processes = λ q off. refl;
+            residents = λ q off. refl;
+            system = same_manager l placed refl;
             notes = λ q off. refl;
             bag = λ q j off least. stays (Queue m q) j (λ e. cc) least;
             holds = λ q j off least. stays (Held m q) j (other_held q off) least;
-            mine = λ loose. mine;
-            keeps = λ server. absurd (false≢true (sym c.server ∙ server));
+            mine = mine;
           }) h.stands h.stands.ring (map_same l.bag placed.bag (v.inbox m) (λ j least. stays (Inbox m) j (λ e. cc) least) ∙ h.stands.inbox) h.stands.made
-          (room_released k.room _ before now a.blocks h.stands.room slots blocks) h.stands.servers h.stands.preds;
+          (subst (λ (n : ℕ). RoomStands (room_without k.room n) (room_of (slice_get b.machines m)) (taken_at next m next.kernel.machines)) blocks room) h.stands.preds;
       sent = λ e. (let f : k.sent + 1 ≡ v.count m + (turning.owns routes + 0) = omega (arith, e, owned) in f);
       over = NoneEnds refl (λ q. refl);
       topic = tt;
@@ -268,12 +257,11 @@ called b m pt l records k p made h c less come =
         told = refl;
         machines = refl;
         made = λ r off. refl;
-        process = λ r q off has. refl;
+        resident = λ r q off has. refl;
+        system = same_manager l placed refl;
         notes = λ r q off has. refl;
         life = λ r q off has. refl;
         bag = λ i z away least. stays z i (off_here z away) (begun_was pt m p i z least);
-        board = λ off. refl;
-        manager = λ off. refl;
       };
       may = may_then next placed after_records 0 on tells
           (all_may next placed after_records a.source a.moves l.bag ids a.held (λ i y least e. held_may b pt next m p l after_records a.source a.moves i y h.run h.mirrors h.own refl least e) stands.held 0)
@@ -303,7 +291,7 @@ called b m pt l records k p made h c less come =
             asked = λ q. refl;
             known = λ r q off. record_apart v.known m r p q forward off;
             kept = λ r d waits. record_kept v.known m p p forward (λ (f : ℕ). ap (is_waited_from f) forward_is) r d waits;
-            processes = λ q. refl;
+            residents = λ q. refl;
             notes = λ q. refl;
             records = λ r q off. records_as records m r k.records state.records q h.records_here (sets q off);
             stood = λ i z least. called_was pt m p n i z least;
@@ -321,10 +309,7 @@ not_coming l p queue held n (Some (Record.Incoming a)) off h = (let (from, is, s
 not_coming l p queue held n _ off h = refl
 
 none_comes : (b : Boot) (pt : Point) (l : Placed) (m : ℕ) (k : KernelState) (p : Pid) → KernelStands b pt l m k → expects (pt.view.known m p) ≡ false → incoming_of (k.records p) ≡ None
-none_comes b pt l m k p h off = elim (cases_Bool (is_server p)) [
-  | inl server ↦ ap incoming_of (h.no_server p server)
-  | inr loose ↦ not_coming l p (pt.view.queue m p) (pt.view.held m p) (pt.view.known m p) (k.records p) off (h.known p loose)
-]
+none_comes b pt l m k p h off = not_coming l p (pt.view.queue m p) (pt.view.held m p) (pt.view.known m p) (k.records p) off (h.known p)
 
 by_whole : (b : Boot) (m : ℕ) (pt : Point) (l : Placed) (records : AllRecords) (k : KernelState) (p : Pid) (whole : Bool) → MadeStands pt.kernel → Present b m pt l records k → (c : IsComing pt l m k p) → is_whole c.arrival.wanted ≡ whole → pt.view.come p ≡ whole → Calls b m pt l records k p
 by_whole b m pt l records k p true made h c whole come =
@@ -335,10 +320,9 @@ by_whole b m pt l records k p false made h c whole come = called b m pt l record
 
 by_known : (b : Boot) (m : ℕ) (pt : Point) (l : Placed) (records : AllRecords) (k : KernelState) (p : Pid) (n : Known) → MadeStands pt.kernel → Present b m pt l records k → pt.view.known m p ≡ n → Calls b m pt l records k p
 by_known b m pt l records k p (Incoming from) made h is =
-    let server = comes_no_server b pt m from p h.run is in
-    let (a, record_is, stands) = recorded b pt l m k p (Incoming from) h.stands server is in
+    let (a, record_is, stands) = recorded b pt l m k p (Incoming from) h.stands is in
     let come = come_is pt.view h.run.based.phased.phases l records p m from a h.tokens h.own is (ap (λ (f : Pid → Option machine.KernelKnown). f p) h.records_here ∙ record_is) in
-    by_whole b m pt l records k p (is_whole a.wanted) made h (record { from = from; arrival = a; known = is; is = record_is; stands = stands; server = server }) refl come
+    by_whole b m pt l records k p (is_whole a.wanted) made h (record { from = from; arrival = a; known = is; is = record_is; stands = stands }) refl come
 by_known b m pt l records k p n made h is =
     none_called b m pt l records k p h (ap (calls_arriving_off k p) (none_comes b pt l m k p h.stands (ap expects is))) (ap (migrating.calls_off pt m p) is)
 

@@ -6,3 +6,4 @@ pub mod Answers
 pub mod Restarts
 pub mod Stale
 pub mod Bury
+pub mod Moved

@@ -13,6 +13,10 @@ use Rattle.dm_mirror.proofs.Counts.Pairs.{within_group, OwnFew, PairsWithin, lin
 use Rattle.dm_mirror.proofs.Counts.Waiting.{Routed, waiting_few, first_count, moves_start, under_start, MovesFew, moves_put, moves_restart, moves_still, line_routed}
 use Rattle.dm_mirror.proofs.Machines.{few_machines, machines_group, some_machine}
 use Rattle.dm_mirror.proofs.Raises.{sent_of}
+use Rattle.dm_mirror.proofs.Names.{is_server}
+use Rattle.dm_rulelaws.specs.Sizes.{AreFew, server_size}
+use Rattle.dm_rule.proofs.Trails.Within.{head_less}
+use Rattle.dm_rulelaws.proofs.Sizes.Always.{sizes_always}
 use Rattle.dm_mirror.proofs.RaisesMade.{move_answered_raises}
 use Rattle.dm_mirror.proofs.Totals.{Grows, grows_on, grows_same, line_grows, total, total_grows, total_most, total_adds}
 
@@ -106,7 +110,7 @@ restarted start p asked ps w is e =
       known = a.known;
     })
 
-rises : (b : Boot) (pt : Point) (d : Step) (w : Spelled) (n : ℕ) (g : GroupIs b pt d w) → Sort pt (actor d) g.parts → Run b pt → Run b w.point → PairsWithin n w.point.view → Under (first_count + total pt.view n) pt.kernel → MovesFew n pt.view → Rises n w.point
+rises : (b : Boot) (pt : Point) (d : Step) (w : Spelled) (n : ℕ) (g : GroupIs b pt d w) → Sort pt (actor pt.view d) g.parts → Run b pt → Run b w.point → PairsWithin n w.point.view → Under (first_count + total pt.view n) pt.kernel → MovesFew n pt.view → Rises n w.point
 rises b pt d w n g (Pays paid) run after within under moves =
     let start = begun pt d in
     let e = ends g.parts (first_count + total pt.view n) start g.rest g.said paid under in
@@ -118,16 +122,20 @@ rises b pt d w n g (Restarts p front asked is) run after within under moves =
     let start = begun pt d in
     let r = subst (Restarted start p) g.point (restarted start p asked g.parts g.rest is g.said) in
     let head_known : (view_after pt.view (Line.Head d)).known ≡ pt.view.known = grind (arith, nat_tests) in
-    restart_rises b n (actor d) pt w.point p run after front r.under (grows_on pt.view start.view w.point.view (line_grows pt.view (Line.Head d)) r.grows)
+    restart_rises b n (actor pt.view d) pt w.point p run after front r.under (grows_on pt.view start.view w.point.view (line_grows pt.view (Line.Head d)) r.grows)
     (r.moves ∙ ap (λ (f : Pid → ℕ). at_pid f p (f p + 1)) (head_moves pt d))
-    (r.known ∙ ap (λ (m : ℕ). at_record start.view.known m p Known.Here) (let e_ : (view_after pt.view (Line.Head d)).acting ≡ actor d = grind (arith, nat_tests) in e_) ∙ ap (λ f. at_record f (actor d) p Known.Here) head_known) under moves
+    (r.known ∙ ap (λ (m : ℕ). at_record start.view.known m p Known.Here) (let e_ : (view_after pt.view (Line.Head d)).acting ≡ actor pt.view d = grind (arith, nat_tests) in e_) ∙ ap (λ f. at_record f (actor pt.view d) p Known.Here) head_known) under moves
+
+-- a machine that there is acts
+acts_within : (b : Boot) (pt : Point) (d : Step) (n : ℕ) → pt.kernel.machines ≡ n → IsStep n d → Run b pt → actor pt.view d < n
+acts_within b pt d n machines fit run = head_less n pt.view d (λ m q known. subst (λ (k : ℕ). m < k) machines (run.found.known_within m q known)) fit
 
 -- each group
 few_group : (b : Boot) (pt : Point) (d : Step) (w : Spelled) (n : ℕ) → 0 < n → pt.kernel.machines ≡ n → IsStep n d → group_of b pt d ≡ Some w → Run b pt → Run b w.point → Few n pt → Few n w.point
 few_group b pt d w n some machines fit is run after h =
     let g = group_is b pt d w is in
-    let within = within_group b pt d w n some machines (machines_group b pt d w is ∙ machines) fit is run.based.phased.pairs after h.within in
-    let r = rises b pt d w n g (subst (SortIf pt (actor d)) g.is (outcome_sort b pt d run)) run after within h.under h.moves in
+    let within = within_group b pt d w n some machines (machines_group b pt d w is ∙ machines) fit is run.based.phased.pairs (acts_within b pt d n machines fit run) after h.within in
+    let r = rises b pt d w n g (subst (SortIf pt (actor pt.view d)) g.is (outcome_sort b pt d run)) run after within h.under h.moves in
     let routed_group : Routed w.point.view = group_keeps Routed (λ v a k i told. let r = k i told in record { from = r.from; to = r.to; there = r.there }) line_routed b pt d w is h.routed in
     record { within = within; own = group_keeps (OwnFew n) (λ v a k. k) (line_own n) b pt d w is h.own; under = r.under; moves = r.moves; routed = routed_group }
 
@@ -154,8 +162,8 @@ pending_few from (r ∷ rs) to e =
     omega (arith, le, pending_few (r.n + 1) rs to k.1)
 
 -- where no pair counts more messages than it may, no count is too great
-pub counts_by : (b : Boot) (pt : Point) → IsValid b → Run b pt → Few (length b.machines) pt → ((a c : ℕ) → length (pt.view.pair a c).ids ≤ b.numbers) → CountsFew pt
-counts_by b pt valid run h counts =
+pub counts_by : (b : Boot) (pt : Point) → IsValid b → Run b pt → Few (length b.machines) pt → ((p : Pid) → is_server p ≡ true → server_size pt.kernel p < 2147483648) → ((a c : ℕ) → length (pt.view.pair a c).ids ≤ b.numbers) → CountsFew pt
+counts_by b pt valid run h sizes counts =
     let n = length b.machines in
     let under = h.under in
     let numbers = valid.most_numbers in
@@ -176,8 +184,12 @@ counts_by b pt valid run h counts =
       own = λ m. let k = h.own h.within m in omega (arith, k, all);
       moves = λ p. let k = h.moves.moves p in omega (arith, k, all);
       waiting = λ m p. let k = waiting_few b pt n run h.within h.routed m p in omega (arith, k, all);
+      sizes = sizes;
     }
 
 -- wherever the rule leads
 pub counts_few : RunStarts → RunGoes → (b : Boot) (es : List Step) (pt : Point) → IsValid b → Leads b (first_point b) es pt → Run b pt → ((a c : ℕ) → length (pt.view.pair a c).ids ≤ b.numbers) → CountsFew pt
-counts_few starts goes b es pt valid leads run counts = counts_by b pt valid run (few_always starts goes b es pt valid leads) counts
+counts_few starts goes b es pt valid leads run counts =
+    let most : b.numbers ≤ 1048576 = let t = valid.most_numbers in grind (arith, nat_tests) in
+    let few : AreFew pt.view = λ a c. let k = counts a c in omega (arith, k, most) in
+    counts_by b pt valid run (few_always starts goes b es pt valid leads) (λ p server. let k = (sizes_always b es pt p valid leads few server).1 in omega (arith, k)) counts

@@ -1,7 +1,7 @@
 -- What the laws rest on.
 use Rattle.dm_mirror.proofs.Names.{◌≡◌, ℕ, ◌<◌, true, List, length, ap, ◌∙◌, sym, subst, inl, nat_le, arith, option_map, Some, nat_tests, length-map, Pid, IsMachine, plain_link, Boot, IsValid, slots_of, Alive, plain_process, PlainProcess}
 use Rattle.dm_mirror.proofs.Names.{Step, Leads, Point, first_point, run_always, run_group, run_start, format_always, tables_always, Placed, MayStep, AreWhole, WorldState, EndIsSaid, EndMay, RunGoesOn, StepsStand, Steps, History, Stands}
-use Rattle.dm_mirror.proofs.Names.{StandsWith, RanGoesOn, alive-is, ◌==◌, [], ◌∷◌, ◌++◌, refl, Inbox, tells_right_always, is_server, GroupNeeds, group_needs, places_follow_by, PlacesFollow, or_second, slice_get, before_turn, before_lawful}
+use Rattle.dm_mirror.proofs.Names.{StandsWith, RanGoesOn, alive-is, ◌==◌, [], ◌∷◌, ◌++◌, refl, GroupNeeds, group_needs, places_follow_by, PlacesFollow, slice_get, before_turn, before_lawful}
 use Rattle.dm_onekernel.specs.Step as kernel
 use Rattle.dm_mirror.proofs.Counts.{counts_few}
 use Rattle.dm_mirror.proofs.Leave.Asked.{asked_by_manager}
@@ -16,7 +16,13 @@ use Rattle.dm_mirror.proofs.Ticks.{tick_goes}
 use Rattle.dm_mirror.proofs.TurnAll.{turns_all}
 use Rattle.dm_mirror.proofs.Over.{before_stands, before_whole}
 use Rattle.dm_mirror.proofs.Deliver.Goes.{reads_as, few}
-use Rattle.dm_mirror.proofs.TurnSteps.{call_goes, move_goes, turn_goes}
+use Rattle.dm_mirror.proofs.TurnSteps.{away_goes, call_goes, move_goes, turn_goes}
+use Rattle.dm_mirror.proofs.Seats.{is_here_is, seat_always, seat_said}
+use Rattle.dm_mirror.proofs.Lasting.{lasts_always}
+use Rattle.dm_rule.specs.View.{has_seat}
+use Rattle.dm_world.specs.World.{seat_of}
+use Rattle.dm_world.specs.May.{MayAskAt}
+use Rattle.dm_mirror.proofs.Names.{CountsStand, manager, Here, Unknown, Bool, false, None, Some, if◌then◌else◌}
 use Rattle.dm_mirror.proofs.Come.Answers.{Around}
 use Rattle.dm_mirror.proofs.End.Processes.{FewAlways, end_may_by}
 
@@ -52,14 +58,29 @@ turn_stands tables b es w pt m valid leads ((l, h, st), sent) lt may whole =
       before_whole (w.nodes m).kernel (w.nodes m).kernel.inbox whole,
     )))
 
+-- on the seat, where the manager is here
+seat_asks : (b : Boot) (es : List Step) (w : WorldState) (pt : Point) (l : Placed) (h : History) (p : Pid) (to : ℕ) → IsValid b → Leads b (first_point b) es pt → StandsWith b w pt l h → CountsStand w pt → to < length b.machines
+    → has_seat pt.view ≡ true → seat_of (length b.machines) w.nodes ≡ Some pt.view.seat → MayAskAt w (Some pt.view.seat) → Steps b w pt (Step.Migrate p to)
+seat_asks b es w pt l h p to valid leads st sent lt here seat may =
+    let both = run_always b es pt valid leads in
+    let m = pt.view.seat in
+    let known : pt.view.known m manager ≡ Here = is_here_is (pt.view.known m manager) here in
+    let within : m < pt.kernel.machines = both.run.found.known_within m manager (λ e. (let f : Here ≡ Unknown = sym known ∙ e in cc)) in
+    let node = st.nodes m within in
+    let machine : IsMachine to = let most : nat_le (length b.machines) 16 ≡ true = valid.few_machines in grind (arith, nat_tests) in
+    move_goes run_group b w pt l h p to m valid both.run both.own seat (ap (λ (c : Bool). if c then m else 0) here) may.0.kernel.here machine st sent within (below b es pt to leads lt)
+    (asks_turn b m pt l (λ n. (w.nodes n).kernel.records) (w.nodes m).kernel (record { run = both.run; mirrors = st.mirrors; stands = node.kernel; own = st.own; tokens = st.tokens; mine = refl; counted = sent m within; seat = refl; here = known }) p to)
+
+move_by : (b : Boot) (es : List Step) (w : WorldState) (pt : Point) (l : Placed) (h : History) (p : Pid) (to : ℕ) (c : Bool) → has_seat pt.view ≡ c → IsValid b → Leads b (first_point b) es pt → StandsWith b w pt l h → CountsStand w pt → to < length b.machines
+    → seat_of (length b.machines) w.nodes ≡ (if c then Some pt.view.seat else None) → MayAskAt w (seat_of (length b.machines) w.nodes) → Steps b w pt (Step.Migrate p to)
+move_by b es w pt l h p to true here valid leads st sent lt seat may = seat_asks b es w pt l h p to valid leads st sent lt here seat (subst (MayAskAt w) seat may)
+move_by b es w pt l h p to false away valid leads st sent lt seat may =
+    away_goes b w pt l h p to seat away st sent
+
 move_stands : (b : Boot) (es : List Step) (w : WorldState) (pt : Point) (p : Pid) (m : ℕ) → IsValid b → Leads b (first_point b) es pt → Stands b w pt → m < length b.machines → MayStep b w (Step.Migrate p m) → Steps b w pt (Step.Migrate p m)
 move_stands b es w pt p m valid leads ((l, h, st), sent) lt may =
-    let both = run_always b es pt valid leads in
-    let first = below b es pt 0 leads (omega (arith, lt)) in
-    let node = st.nodes 0 first in
-    let machine : IsMachine m = let most : nat_le (length b.machines) 16 ≡ true = valid.few_machines in grind (arith, nat_tests) in
-    move_goes run_group b w pt l h p m valid both.run both.own may.1.kernel.here machine st sent first (below b es pt m leads lt)
-    (asks_turn b pt l (λ n. (w.nodes n).kernel.records) (w.nodes 0).kernel p m (search (sent 0 first)))
+    move_by b es w pt l h p m (has_seat pt.view) refl valid leads st sent lt
+    (seat_said b w pt l h (run_always b es pt valid leads).run (seat_always b es pt valid leads) st (has_seat pt.view) refl) may.1
 
 call_stands : (b : Boot) (es : List Step) (w : WorldState) (pt : Point) (p : Pid) (m : ℕ) → IsValid b → Leads b (first_point b) es pt → Stands b w pt → m < length b.machines → MayStep b w (Step.CallOff p m) → Steps b w pt (Step.CallOff p m)
 call_stands b es w pt p m valid leads ((l, h, st), sent) lt may =
@@ -113,7 +134,7 @@ pub end_may : EndMay
 end_may = end_may_by few_always
 
 pub end_is_said : EndIsSaid
-end_is_said = end_is_said_by (λ b es pt valid leads. (run_always b es pt valid leads).run)
+end_is_said = end_is_said_by (λ b es pt valid leads. (run_always b es pt valid leads).run) lasts_always
 
 -- Wherever the rule leads, a kernel with places goes along.
 
@@ -124,8 +145,7 @@ Reached b pt = (es : List Step) × Leads b (first_point b) es pt
 needs : (b : Boot) (pt : Point) → IsValid b → Reached b pt → GroupNeeds pt
 needs b pt valid (es, leads) =
     let run = (run_always b es pt valid leads).run in
-    group_needs pt run.based.pending run.based.unmoved (tells_right_always b es pt valid leads) run.found.told
-    (λ i m t stands told server. run.found.fixed i (Inbox m) t stands told (or_second (t.receiver.num == 0) (is_server t.receiver) server))
+    group_needs pt run.based.pending run.based.unmoved
     (λ i x machine there is. asked_by_manager pt.kernel i x machine is (run.based.fits.messages i x there))
 
 pub places_follow : PlacesFollow

@@ -32,7 +32,7 @@ pub run_last : (b : Boot) (gs : List (List Line)) (pt end : Point) (t left : Tod
 run_last b [] pt end t left n v g (e, f) next is lines kept = grind (arith, nat_tests, end.kernel.machines, end.view, n.step)
 run_last b (h ∷ hs) pt end t left n v g (m, w, first, group, said, stands, rest) next is lines kept = (m, w, first, group, said, stands, run_last b hs w.point end m.left left n v g rest next is lines kept)
 
-joined_last : (gs : List (List Line)) (g : List Line) → joined (gs ++ g ∷ []) ≡ joined gs ++ g
+pub joined_last : (gs : List (List Line)) (g : List Line) → joined (gs ++ g ∷ []) ≡ joined gs ++ g
 joined_last [] g = append-nil g
 joined_last (h ∷ hs) g = ap (λ (ls : List Line). h ++ ls) (joined_last hs g) ∙ sym (append_assoc h (joined hs) g)
 

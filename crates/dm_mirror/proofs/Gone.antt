@@ -2,14 +2,11 @@
 use Rattle.dm_mirror.proofs.Names.{◌≡◌, ℕ, ◌≤◌, ◌||◌, ◌==◌, Bool, true, false, refl, ap, ◌∙◌, sym, is_some, Option, None, Some, false≢true, Pid, MsgId, PlainMessage, PlainWhat, Boot, Why, Alive, Life, OneKernel, WhatFits, is_server}
 use Rattle.dm_mirror.proofs.Names.{is_fixed, not_true, Point, Run, Spot, Told, standing, Unknown, machine_of, manager, Ended, is_alive, awaits, has_bytes, life_sort, PlainProcess}
 use Rattle.dm_onekernel.specs.Step as kernel
+pub use Rattle.dm_rulelaws.proofs.Found.Real.{has_some}
 
 -- what is known nowhere where a message for it stands isn't alive
 pub not_alive : (b : Boot) (pt : Point) (i : MsgId) (z : Spot) (t : Told) → Run b pt → 1 ≤ standing pt.view i z → pt.view.told i ≡ Some t → is_fixed t.receiver ≡ false → pt.view.known (machine_of z) t.receiver ≡ Unknown → is_alive pt.kernel t.receiver ≡ false
 not_alive b pt i z t run least told loose unknown = not_true (is_alive pt.kernel t.receiver) (λ alive. run.found.process i z t least told loose alive unknown)
-
-has_some : (n : ℕ) (o : Option Life) → has_bytes n o ≡ true → is_some o ≡ true
-has_some n None e = absurd (false≢true e)
-has_some n (Some life) e = refl
 
 awaits_some : (n : ℕ) (w : PlainWhat) (o : Option Life) → awaits o n w ≡ true → is_some o ≡ true
 awaits_some n w None e = absurd (false≢true e)

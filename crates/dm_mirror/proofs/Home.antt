@@ -7,7 +7,7 @@ use Rattle.dm_mirror.proofs.Giving.{more_if, one_more}
 use Rattle.dm_mirror.proofs.Route.Puts.{CoreStands}
 
 lawful_more : (k : KernelState) (x : Message) → IsLawfulMessage x → IsLawfulState k → IsLawfulState (record k { inbox = k.inbox ++ x ∷ [] })
-lawful_more k x lawful h = record { records = h.records; room = h.room; inbox = All-push IsLawfulMessage k.inbox x h.inbox lawful; servers = h.servers }
+lawful_more k x lawful h = record { records = h.records; room = h.room; inbox = All-push IsLawfulMessage k.inbox x h.inbox lawful }
 
 -- what the new state of a machine leaves as it was
 part_if : {Y : Type 0} (g : NodeState → Y) (f : ℕ → NodeState) (m a : ℕ) (n : NodeState) (t : Bool) → (m == a) ≡ t → g n ≡ g (f m) → g (if t then n else f a) ≡ g (f a)

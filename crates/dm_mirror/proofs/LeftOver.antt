@@ -2,11 +2,12 @@
 use Rattle.dm_mirror.proofs.Names.{◌≡◌, ℕ, ◌≤◌, ◌==◌, ◌&&◌, ◌||◌, Bool, true, false, not, refl, ap, ◌∙◌, sym, subst, arith, if◌then◌else◌, Option, None, Some, false≢true, nat_tests, Pid, pid_of, MsgId, MessageKind, What, kind_of}
 use Rattle.dm_mirror.proofs.Names.{plain_what, Phase, Moves, IsIn, is_between, is_early, tells_onward, receiver_in, sender_in, told_between, Spot, standing, View, Known, Incoming, Frozen, Of, Told, InPhases, token_at, token_is, kind_comes}
 use Rattle.dm_mirror.proofs.Names.{is_due, Placed, Mirrors, IsSuch, AllRecords, Carries, TokenStands, TokensStand, destination_of, cargo_at, cargo_of, Cargo, HasBlock, HasChunk, incoming_of, sort_of, eq_self, about_same, option_map, Asker}
-use Rattle.dm_mirror.proofs.Names.{Process, Arrival, Record, AllOwnStand, told_of, with_what, Point, and_false, at_record, cases_Bool, inbox_is, inl, inr, pid_eq, pid_eq-is, Inbox, LeftCarries, LeftStands, is_due_piece, is_piece, source_of}
+use Rattle.dm_mirror.proofs.Names.{Resident, resident_at, Arrival, Record, AllOwnStand, told_of, with_what, Point, and_false, at_record, cases_Bool, inbox_is, inl, inr, pid_eq, pid_eq-is, Inbox, LeftCarries, LeftStands, is_due_piece, is_piece, source_of}
 use Rattle.dm_mirror.proofs.Names.{is_whole, brings_piece, pulls_piece, Asks, Comes, HasCome, IsLeft, IsToken, is_calloff, knows, tells_come, is_waited_from, false_from_ne_true, waited_is, LeftOver, Token, TokenOrLeft, coming_is}
 use Rattle.dm_mirror.proofs.Names.{destination_comes, destination_expects, source_holds}
 use Rattle.dm_kernel.specs.State as machine
 use Rattle.dm_mirror.proofs.Cargoes.{cargo_same, is_cargo_of}
+use Rattle.dm_mirror.proofs.Residents.{resident_is}
 
 -- By what it is told as.
 
@@ -186,7 +187,7 @@ pub left_keeps : (l placed : Placed) (p : Pid) (i : MsgId) (h : LeftStands l p i
 left_keeps l placed p i h cargo is = record { message = h.message; is = is; sender = h.sender; carries = left_carries p (cargo_at l p) (cargo_at placed p) h.message.what cargo h.carries }
 
 -- whoever waits to hear of it
-asked_otherwise : (p : Pid) (o : Option Process) (a b : Option Asker) (w : What) → LeftCarries p (option_map (λ (x : Process). cargo_of x a) o) w → LeftCarries p (option_map (λ (x : Process). cargo_of x b) o) w
+asked_otherwise : (p : Pid) (o : Option Resident) (a b : Option Asker) (w : What) → LeftCarries p (option_map (λ (x : Resident). cargo_of x a) o) w → LeftCarries p (option_map (λ (x : Resident). cargo_of x b) o) w
 asked_otherwise p (Some x) a b (What.PullState q chunk) h = h
 asked_otherwise p (Some x) a b (What.PullBlock q block) h = h
 asked_otherwise p None a b (What.PullState q chunk) h = absurd h.1
@@ -195,13 +196,13 @@ asked_otherwise p o a b (What.State q chunk last bytes) h = h
 asked_otherwise p o a b (What.Memory q block bytes) h = h
 asked_otherwise p o a b _ h = absurd h
 
-pub left_asks : (l placed : Placed) (p : Pid) (i : MsgId) (h : LeftStands l p i) → placed.processes p ≡ l.processes p → placed.bag i ≡ Some h.message → LeftStands placed p i
+pub left_asks : (l placed : Placed) (p : Pid) (i : MsgId) (h : LeftStands l p i) → resident_at placed p ≡ resident_at l p → placed.bag i ≡ Some h.message → LeftStands placed p i
 left_asks l placed p i h same is = record {
   message = h.message;
   is = is;
   sender = h.sender;
-  carries = subst (λ (o : Option Process). LeftCarries p (option_map (λ (x : Process). cargo_of x (placed.notes p)) o) h.message.what) (sym same)
-      (asked_otherwise p (l.processes p) (l.notes p) (placed.notes p) h.message.what h.carries);
+  carries = subst (λ (o : Option Resident). LeftCarries p (option_map (λ (x : Resident). cargo_of x (placed.notes p)) o) h.message.what) (sym same)
+      (asked_otherwise p (resident_at l p) (l.notes p) (placed.notes p) h.message.what h.carries);
 }
 
 -- where nothing that they are read by changes, and what stands stood before
@@ -242,7 +243,7 @@ pub left_told : (v : View) (l : Placed) (p : Pid) (i : MsgId) (t : Told) (h : Le
 left_told v l p i t h own told =
     some_told t (told_of h.message) (sym told ∙ (own i h.message h.is (ap (with_what h.message) (left_plain p (cargo_at l p) h.message.what h.carries))).told)
 
--- what is left over and asks for a piece: the process is held back where it is asked for
+-- what is left over and asks for a piece: it is held back where it is asked for
 pub left_held : (v : View) (p : Pid) (phase : Phase) (i : MsgId) (t : Told) → IsIn v p phase → IsLeft v p phase i t → pulls_piece (sort_of t.kind) ≡ true → (s : ℕ) × (d : ℕ) × (v.known s p ≡ Frozen d)
 left_held v p phase i t h (Asks s d j pulls say way is first) asks = (s, d, source_holds v p MessageKind.CallOff s d j (subst (λ (x : Phase). IsIn v p x) is h) refl)
 left_held v p phase i t h (Comes s d brings say way off first) asks = absurd (false≢true (sym (brings_on t.kind brings).2 ∙ asks))
@@ -279,11 +280,11 @@ left_of p c n a o (What.State q chunk last bytes) named is piece h = (let e : q 
 left_of p c n a o (What.Memory q block bytes) named is piece h = (let e : q ≡ c.pid = cc (h.0) in e ∙ named)
 left_of p c n a o _ named is piece h = absurd (false≢true piece)
 
--- it bears the name of its process
+-- it bears the name of what it is of
 pub cargo_named : (pt : Point) (l : Placed) (p : Pid) (c : Cargo) → Mirrors pt.kernel pt.view pt.addresses l → cargo_at l p ≡ Some c → c.pid ≡ p
 cargo_named pt l p c mirrors is =
-    let of = is_cargo_of (l.processes p) (l.notes p) c is in
-    ap (λ (z : Cargo). z.pid) (sym of.is) ∙ (mirrors.places.process p of.process of.there).pid
+    let of = is_cargo_of (resident_at l p) (l.notes p) c is in
+    ap (λ (z : Cargo). z.pid) (sym of.is) ∙ (resident_is pt.kernel pt.view pt.addresses l p of.resident mirrors of.there).name
 
 pub due_left : (pt : Point) (l : Placed) (r : AllRecords) (p : Pid) (i : MsgId) (t : Told) (h : TokenStands pt.view l r p i t) → Mirrors pt.kernel pt.view pt.addresses l → is_piece (sort_of (kind_of h.message.what)) ≡ true → LeftStands l p i
 due_left pt l r p i t h mirrors piece = record {
@@ -378,7 +379,7 @@ pub record CallsOff (v w : View) (l placed : Placed) (before after : AllRecords)
   pub asked : (q : Pid) → w.asked q ≡ v.asked q
   pub known : (n : ℕ) (q : Pid) → pid_eq p q ≡ false → w.known n q ≡ v.known n q
   pub kept : (n c : ℕ) → is_waited_from c (w.known n p) ≡ true → is_waited_from c (v.known n p) ≡ true
-  pub processes : (q : Pid) → placed.processes q ≡ l.processes q
+  pub residents : (q : Pid) → resident_at placed q ≡ resident_at l q
   pub notes : (q : Pid) → placed.notes q ≡ l.notes q
   pub records : (n : ℕ) (q : Pid) → pid_eq p q ≡ false → after n q ≡ before n q
   pub stood : (i : MsgId) (z : Spot) → 1 ≤ standing w i z → 1 ≤ standing v i z
@@ -392,7 +393,7 @@ tokens_called pt w l placed before after p m from phases mirrors own c h q i t z
     let least = c.stood i z st in
     let same = c.bag i t z was between st in
     let stands : OneStands v l before q i t = h q i t z was between about least in
-    let cargo = cargo_same l placed q (c.processes q) (c.notes q) in
+    let cargo = cargo_same l placed q (c.residents q) (c.notes q) in
     elim (cases_Bool (pid_eq p q)) [
       | inr apart ↦
           one_keeps v w l placed before after q i t (known_due v w q i t (λ n. c.known n q apart)) (λ due x. token_same v w l placed before after q i t cargo (c.asked q) (λ n. c.records n q apart) x (same ∙ x.is))
@@ -401,7 +402,7 @@ tokens_called pt w l placed before after p m from phases mirrors own c h q i t z
           let is : p ≡ q = pid_eq-is p q is_p in
           let mine : t.about ≡ Of p = about ∙ ap Of (sym is) in
           let x = called_over pt w l before p m from i t z phases mirrors own was between mine least c.comes c.less c.forwards c.kept (subst (λ (r : Pid). OneStands v l before r i t) (sym is) stands) in
-          let y = left_keeps l placed p i x.1 (λ asks. cargo_same l placed p (c.processes p) (c.notes p)) (same ∙ x.1.is) in
+          let y = left_keeps l placed p i x.1 (λ asks. cargo_same l placed p (c.residents p) (c.notes p)) (same ∙ x.1.is) in
           subst (λ (r : Pid). OneStands w placed after r i t) is (λ due. absurd (false≢true (sym x.0 ∙ due)), λ off. y)
     ]
   where

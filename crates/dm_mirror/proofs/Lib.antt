@@ -1,8 +1,10 @@
 pub mod Names
 pub mod Turning
 pub mod Rooms
+pub mod Residents
 pub mod Recorded
 pub mod Cargoes
+pub mod Sized
 pub mod LeftOver
 pub mod Kernel
 pub mod Serve
@@ -51,4 +53,7 @@ pub mod May
 pub mod Going
 pub mod Single
 pub mod Leading
+pub mod Saying
+pub mod Seats
+pub mod Lasting
 pub mod Given

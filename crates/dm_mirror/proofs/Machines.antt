@@ -6,6 +6,7 @@ use Rattle.dm_laws.proofs.Names.{begun}
 use Rattle.dm_onekernel.specs.Step as kernel
 use Rattle.dm_mirror.proofs.Numbering.{life_named, named_all, named_is, some_of as some_is}
 use Rattle.dm_mirror.proofs.RaisesMade.{Makes, step_makes}
+pub use Rattle.dm_rulelaws.proofs.Sizes.Always.{few_machines}
 
 -- there are as many machines as at first
 pub machines_group : (b : Boot) (pt : Point) (d : Step) (w : Spelled) → group_of b pt d ≡ Some w → w.point.kernel.machines ≡ pt.kernel.machines
@@ -17,10 +18,6 @@ machines_lead b (d ∷ ds) pt end (w, fit, is, more) = machines_lead b ds w.poin
 
 pub machines_are : (b : Boot) (es : List Step) (pt : Point) → Leads b (first_point b) es pt → pt.kernel.machines ≡ length b.machines
 machines_are b es pt leads = machines_lead b es (first_point b) pt leads
-
--- 1 to 16 of them
-pub few_machines : (b : Boot) → IsValid b → length b.machines ≤ 16
-few_machines b valid = let k = valid.few_machines in grind (arith, nat_tests)
 
 pub some_machine : (b : Boot) → IsValid b → 1 ≤ length b.machines
 some_machine b valid = let k = valid.some_machines in grind (arith, nat_tests)

@@ -4,18 +4,21 @@ pub mod OwnKernel
 pub mod Turns
 use Rattle.dm_mirror.proofs.Names.{◌≡◌, ℕ, ◌+◌, ◌^◌, ◌<◌, ◌≤◌, ◌==◌, Bool, true, false, List, [], ◌∷◌, length, refl, ap, sym, subst, arith, if◌then◌else◌, IsSome, All, Option, None, Some, Result, Err, nat_tests, All-nil, Message}
 use Rattle.dm_mirror.proofs.Names.{IsLawfulMessage, Packet, Line, PacketError, packet_of, Data, Ack, bytes_at, after_mark, Boot, IsValid, Step, Leads, Point, first_point, OwnTold, Run, Placed, IsLawfulState, KernelState, Turned}
-use Rattle.dm_mirror.proofs.Names.{asks_manager, asks_move, told_to_move, Servers, MoveError, moves_child, Pid, opened_may, asked_lawful, turn_lawful, Acted, Acts, Goes, Worn, NodeState, MayAct, MayArrive, MayAskMove, MayAfter, arrives_may}
-use Rattle.dm_mirror.proofs.Names.{turn_may, Said, WorldState, acted, arrives, delivers, first_world, reads, world_step, MayDeliver, MayRead, MayStep, AllMayAct, MadeStands, CountsStand, History, Stands, StandsWith, servers_at, calls_off}
-use Rattle.dm_mirror.proofs.Names.{MayCallOff, called_off_lawful, StaysAt, calls_off_stays, ◌∙◌, inl, inr, cases_Bool, length-map, Arrival, Record, HasTaken, Mirrors, KernelStands, KnownStands, incoming_of, is_server, takes_room, map, ◌/◌}
+use Rattle.dm_mirror.proofs.Names.{asks_move, asks_move_stays, Pid, opened_may, asked_lawful, turn_lawful, Acted, Acts, Goes, Worn, NodeState, MayAct, MayArrive, MayAskMove, MayAfter, arrives_may}
+use Rattle.dm_mirror.proofs.Names.{turn_may, Said, WorldState, acted, arrives, delivers, first_world, reads, world_step, MayDeliver, MayRead, MayStep, AllMayAct, MadeStands, CountsStand, History, Stands, StandsWith, calls_off}
+use Rattle.dm_mirror.proofs.Names.{MayCallOff, called_off_lawful, StaysAt, calls_off_stays, ◌∙◌, length-map, Arrival, Record, Mirrors, KernelStands, KnownStands, incoming_of, takes_room, map}
 use Rattle.dm_mirror.proofs.Names.{MsgId, IfSome, keeps_over}
 use Rattle.dm_world.proofs.Names.{Ok}
 use Rattle.dm_stream.specs.Packets.{Load}
 use Rattle.dm_kernel.specs.State.{own_id}
 use Rattle.dm_node.specs.May.{MayTurn}
-use Rattle.dm_world.specs.World.{Says, turned}
+use Rattle.dm_world.specs.World.{Says, asks_at, seat_of, turned}
 use Rattle.dm_kernel.specs.Turn as kernel
 use Rattle.dm_mirror.proofs.Call.{coming_by, coming_fits}
-use Rattle.dm_mirror.proofs.May.Own.{has_taken, life_is}
+use Rattle.dm_mirror.proofs.May.OwnKernel.{room_taken}
+use Rattle.dm_mirror.proofs.Seats.{seat_has}
+use Rattle.dm_migrate.specs.Rooms.{HasTakenBy}
+use Rattle.dm_world.specs.May.{MayAskAt}
 use Rattle.dm_kernel.specs.State as state
 use Rattle.dm_node.specs.Acts as node
 use Rattle.dm_mirror.proofs.Machines.{few_machines, machines_are, some_machine, made_always}
@@ -23,8 +26,9 @@ use Rattle.dm_mirror.proofs.Counts.Pairs.{CountsFew}
 use Rattle.dm_mirror.proofs.May.Turns as turns
 
 -- all that stands about the machine
-stand_of : (b : Boot) (w : WorldState) (pt : Point) (l : Placed) (h : History) (m : ℕ) → Run b pt → OwnTold pt → MadeStands pt.kernel → CountsFew pt → StandsWith b w pt l h → CountsStand w pt → m < pt.kernel.machines → turns.Stand b pt l (λ n. (w.nodes n).kernel) m
-stand_of b w pt l h m run told made counts st sent within = record {
+stand_of : (b : Boot) (w : WorldState) (pt : Point) (l : Placed) (h : History) (m : ℕ) → IsValid b → Run b pt → OwnTold pt → MadeStands pt.kernel → CountsFew pt → StandsWith b w pt l h → CountsStand w pt → m < pt.kernel.machines → turns.Stand b pt l (λ n. (w.nodes n).kernel) m
+stand_of b w pt l h m valid run told made counts st sent within = record {
+  valid = valid;
   run = run;
   told = told;
   made = made;
@@ -45,7 +49,7 @@ may_turn b es w pt m valid leads run told counts ((l, h, st), sent) acts lt =
     let node = st.nodes m within in (
       record {
         acts = acts.each m lt;
-        kernel = turns.may_turn b pt l (λ n. (w.nodes n).kernel) m (omega (arith, lt, few)) (stand_of b w pt l h m run told (made_always b es pt valid leads) counts st sent within) node.lawful;
+        kernel = turns.may_turn b pt l (λ n. (w.nodes n).kernel) m (omega (arith, lt, few)) (stand_of b w pt l h m valid run told (made_always b es pt valid leads) counts st sent within) node.lawful;
       },
       node.lawful,
     )
@@ -53,38 +57,41 @@ may_turn b es w pt m valid leads run told counts ((l, h, st), sent) acts lt =
 pub may_step_turn : (b : Boot) (es : List Step) (w : WorldState) (pt : Point) (m : ℕ) → IsValid b → Leads b (first_point b) es pt → Run b pt → OwnTold pt → CountsFew pt → Stands b w pt → AllMayAct b w → m < length b.machines → MayStep b w (Step.Turn m)
 may_step_turn b es w pt m valid leads run told counts stands acts lt = let k = may_turn b es w pt m valid leads run told counts stands acts lt in (lt, k.0, k.1)
 
-pub may_step_migrate : (b : Boot) (es : List Step) (w : WorldState) (pt : Point) (p : Pid) (m : ℕ) → IsValid b → Leads b (first_point b) es pt → CountsFew pt → Stands b w pt → AllMayAct b w → m < length b.machines → MayStep b w (Step.Migrate p m)
-may_step_migrate b es w pt p m valid leads counts ((l, h, st), sent) acts lt =
-    let some = some_machine b valid in
-    let within : 0 < pt.kernel.machines = omega (arith, some, machines_are b es pt leads) in
-    let node = st.nodes 0 within in
+-- the machine that has the manager is asked, where one has it
+may_ask : (b : Boot) (w : WorldState) (pt : Point) (l : Placed) (h : History) (o : Option ℕ) → seat_of (length b.machines) w.nodes ≡ o → IsValid b → pt.kernel.machines ≡ length b.machines → CountsFew pt → StandsWith b w pt l h → CountsStand w pt → AllMayAct b w → MayAskAt w o
+may_ask b w pt l h None seat valid machines counts st sent acts = tt
+may_ask b w pt l h (Some m) seat valid machines counts st sent acts =
+    let has = seat_has (length b.machines) m w.nodes seat in
+    let less = has.0 in
+    let few = few_machines b valid in
+    let within : m < pt.kernel.machines = omega (arith, less, machines) in
+    let node = st.nodes m within in
     let here = node.kernel.here in
-    let few = counts.own 0 in (
-      lt,
-      (search (acts.each 0 (omega (arith, some)), arith, sent 0 within, few, subst (λ (o : Option Servers). IsSome o) (sym node.kernel.servers) refl)),
+    let own = counts.own m in (
+      record { acts = acts.each m less; kernel = record { here = omega (arith, here, less, few); sent = omega (arith, sent m within, own); manager = has.1 } },
       node.lawful,
     )
 
+pub may_step_migrate : (b : Boot) (es : List Step) (w : WorldState) (pt : Point) (p : Pid) (m : ℕ) → IsValid b → Leads b (first_point b) es pt → CountsFew pt → Stands b w pt → AllMayAct b w → m < length b.machines → MayStep b w (Step.Migrate p m)
+may_step_migrate b es w pt p m valid leads counts ((l, h, st), sent) acts lt = (lt, may_ask b w pt l h (seat_of (length b.machines) w.nodes) refl valid (machines_are b es pt leads) counts st sent acts)
+
 -- what comes is called off: it has taken its room, and few messages were held for it
 abbrev MayCall : Option state.KernelKnown → KernelState → Type 0
-MayCall r k = IfSome (incoming_of r) (λ (a : Arrival). HasTaken k.room a.blocks) × IfSome (incoming_of r) (λ (a : Arrival). length a.held < 4294967295)
+MayCall r k = IfSome (incoming_of r) (λ (a : Arrival). HasTakenBy k.room a.blocks) × IfSome (incoming_of r) (λ (a : Arrival). length a.held < 4294967295)
 
-may_call_by : (b : Boot) (pt : Point) (l : Placed) (m : ℕ) (k : KernelState) (p : Pid) (r : Option state.KernelKnown) → k.records p ≡ r → MadeStands pt.kernel → CountsFew pt → Mirrors pt.kernel pt.view pt.addresses l → KernelStands b pt l m k → is_server p ≡ false → MayCall r k
-may_call_by b pt l m k p (Some (Record.Incoming a)) is made counts mirrors h loose =
-    let (from, known, stands) = coming_by l p (pt.view.queue m p) (pt.view.held m p) (pt.view.known m p) a (subst (KnownStands l p (pt.view.queue m p) (pt.view.held m p) (pt.view.known m p)) is (h.known p loose)) in
+may_call_by : (b : Boot) (pt : Point) (l : Placed) (m : ℕ) (k : KernelState) (p : Pid) (r : Option state.KernelKnown) → k.records p ≡ r → MadeStands pt.kernel → CountsFew pt → Mirrors pt.kernel pt.view pt.addresses l → KernelStands b pt l m k → MayCall r k
+may_call_by b pt l m k p (Some (Record.Incoming a)) is made counts mirrors h =
+    let (from, known, stands) = coming_by l p (pt.view.queue m p) (pt.view.held m p) (pt.view.known m p) a (subst (KnownStands l p (pt.view.queue m p) (pt.view.held m p) (pt.view.known m p)) is (h.known p)) in
     let fits = coming_fits pt l p from (pt.view.held m p) a mirrors stands in
     let held_ = sym (length-map a.held Some) ∙ ap length (sym stands.held) ∙ length-map (pt.view.held m p) l.bag in
     let few = counts.waiting m p in (
-      subst (HasTaken k.room) (sym fits.blocks) (has_taken b pt l m k p fits.process made h (ap takes_room known) (life_is pt l p fits.process mirrors fits.there)),
+      room_taken b pt l m k p fits.resident made mirrors h (ap takes_room known) fits.there a.blocks (sym fits.blocks),
       omega (arith, held_, few),
     )
-may_call_by b pt l m k p _ is made counts mirrors h loose = (tt, tt)
+may_call_by b pt l m k p _ is made counts mirrors h = (tt, tt)
 
 may_call : (b : Boot) (pt : Point) (l : Placed) (m : ℕ) (k : KernelState) (p : Pid) → MadeStands pt.kernel → CountsFew pt → Mirrors pt.kernel pt.view pt.addresses l → KernelStands b pt l m k → MayCall (k.records p) k
-may_call b pt l m k p made counts mirrors h = elim (cases_Bool (is_server p)) [
-  | inl server ↦ subst (λ (r : Option state.KernelKnown). MayCall r k) (sym (h.no_server p server)) (tt, tt)
-  | inr loose ↦ may_call_by b pt l m k p (k.records p) refl made counts mirrors h loose
-]
+may_call b pt l m k p made counts mirrors h = may_call_by b pt l m k p (k.records p) refl made counts mirrors h
 
 pub may_step_calloff : (b : Boot) (es : List Step) (w : WorldState) (pt : Point) (p : Pid) (m : ℕ) → IsValid b → Leads b (first_point b) es pt → CountsFew pt → Stands b w pt → AllMayAct b w → m < length b.machines → MayStep b w (Step.CallOff p m)
 may_step_calloff b es w pt p m valid leads counts ((l, h, st), sent) acts lt =
@@ -135,12 +142,20 @@ turn_stays b w m (Some t) s stays valid e is may lawful acts =
     let fit = turn_lawful b (w.nodes m).kernel t valid.images may.kernel lawful e in
     turned_may b (keeps_over w (node.turns (w.nodes m) (Some t))) (Step.Turn m) m (node.acts (record (w.nodes m) { kernel = t.state }) t.parts) s is (turn_may (w.nodes m) t (stays b (w.nodes m).kernel t e) fit.parts.each may.acts) (record { each = acts.each })
 
-ask_stays : (b : Boot) (w : WorldState) (p : Pid) (m : ℕ) (o : Option Turned) (s : Said) → asks_move (w.nodes 0).kernel p m ≡ o → turned w (Step.Migrate p m) 0 (node.turns (w.nodes 0) o) ≡ Some (Says s) → m < 16 → MayAskMove (w.nodes 0) → IsLawfulState (w.nodes 0).kernel → AllMayAct b w → AllMayAct b s.state
-ask_stays b w p m None s e is to may lawful acts = cc
-ask_stays b w p m (Some t) s e is to may lawful acts =
-    let fit = asked_lawful (w.nodes 0).kernel p m t may.kernel.here (omega (arith, to)) lawful e in
-    let manager_here : t.state.here ≡ (w.nodes 0).kernel.here = grind (arith, nat_tests) in
-    turned_may b w (Step.Migrate p m) 0 (node.acts (record (w.nodes 0) { kernel = t.state }) t.parts) s is (turn_may (w.nodes 0) t manager_here fit.parts.each may.acts) acts
+asked_stays : (b : Boot) (w : WorldState) (p : Pid) (m seat : ℕ) (o : Option Turned) (s : Said) → asks_move (w.nodes seat).kernel p m ≡ o → turned w (Step.Migrate p m) seat (node.turns (w.nodes seat) o) ≡ Some (Says s) → m < 16 → MayAskMove (w.nodes seat) → IsLawfulState (w.nodes seat).kernel → AllMayAct b w → AllMayAct b s.state
+asked_stays b w p m seat None s e is to may lawful acts = cc
+asked_stays b w p m seat (Some t) s e is to may lawful acts =
+    let k = (w.nodes seat).kernel in
+    let fit = asked_lawful k p m t may.kernel.here (omega (arith, to)) lawful e in
+    let manager_here : t.state.here ≡ k.here = subst (StaysAt k.here) e (asks_move_stays k p m) in
+    turned_may b w (Step.Migrate p m) seat (node.acts (record (w.nodes seat) { kernel = t.state }) t.parts) s is (turn_may (w.nodes seat) t manager_here fit.parts.each may.acts) acts
+
+-- while the manager is on its way nothing changes
+ask_stays : (b : Boot) (w : WorldState) (p : Pid) (m : ℕ) (o : Option ℕ) (s : Said) → asks_at w (Step.Migrate p m) p m o ≡ Some (Says s) → m < 16 → MayAskAt w o → AllMayAct b w → AllMayAct b s.state
+ask_stays b w p m None s is to may acts =
+    let f : record { state = record w { groups = w.groups + 1 }; lines = Line.Head (Step.Migrate p m) ∷ Line.Away ∷ [] } ≡ s = cc in
+    subst (λ (v : Said). AllMayAct b v.state) f (record { each = acts.each })
+ask_stays b w p m (Some seat) s is to may acts = asked_stays b w p m seat (asks_move (w.nodes seat).kernel p m) s refl is to may.0 may.1 acts
 
 call_stays : (b : Boot) (w : WorldState) (p : Pid) (m : ℕ) (o : Option Turned) (s : Said) → calls_off (w.nodes m).kernel p ≡ o → turned w (Step.CallOff p m) m (node.turns (w.nodes m) o) ≡ Some (Says s) → MayCallOff (w.nodes m) p → IsLawfulState (w.nodes m).kernel → AllMayAct b w → AllMayAct b s.state
 call_stays b w p m None s e is may lawful acts = cc
@@ -173,5 +188,5 @@ acts_step stays b w (Step.Turn m) s valid may is acts = turn_stays b w m (kernel
 acts_step stays b w (Step.Tick m) s valid may is acts = acted_may b w (Step.Tick m) m (node.tick (w.nodes m)) s (let f : acted w (Step.Tick m) m (node.tick (w.nodes m)) ≡ s = cc in f) may.1 acts
 acts_step stays b w (Step.Deliver a c k) s valid may is acts = delivered_may b w (Step.Deliver a c k) a c k (bytes_at (w.wires a c) k) s is may.3 acts
 acts_step stays b w (Step.Migrate p m) s valid may is acts =
-    ask_stays b w p m (asks_move (w.nodes 0).kernel p m) s refl is (omega (arith, may.0, few_machines b valid)) may.1 may.2 acts
+    ask_stays b w p m (seat_of (length b.machines) w.nodes) s is (let less = may.0 in omega (arith, less, few_machines b valid)) may.1 acts
 acts_step stays b w (Step.CallOff p m) s valid may is acts = call_stays b w p m (calls_off (w.nodes m).kernel p) s refl is may.1 may.2 acts

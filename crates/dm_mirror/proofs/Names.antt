@@ -21,9 +21,10 @@ pub use Rattle.dm_statebytes.proofs.Sizes.{numbers_size}
 unfoldable pub use Rattle.dm_statebytes.specs.Shell.{registers, shell_spelling}
 pub use Rattle.dm_migrate.proofs.Names.{CanCome, CanMove, Cargo, ComesByPieces, HasBlock, HasPiece, IsNextPiece, Shell, after_block, after_chunk, cargo_of, coming, is_last, map-append, shell_of}
 pub use Rattle.dm_migrate.proofs.Way.{by_pieces, can_come, comes_back}
-pub use Rattle.dm_migrate.specs.Answer.{IsAskOfProcess}
 pub use Rattle.dm_migrate.specs.Cargo.{ask_for}
-unfoldable pub use Rattle.dm_migrate.specs.Departure.{IsReadAgain}
+unfoldable pub use Rattle.dm_resident.specs.Packed.{IsReadAgain}
+pub use Rattle.dm_resident.specs.declared.Resident.{Resident}
+pub use Rattle.dm_migrate.specs.Way.{IsOfSystem}
 pub use Rattle.dm_onekernel.specs.Step.{why_ended}
 pub use Rattle.dm_switchboard.proofs.Imports.{Board}
 pub use Rattle.dm_switchboard.proofs.Plain.{plain_request}
@@ -46,7 +47,7 @@ pub use Rattle.dm_rule.proofs.Homes.Lines.{acting_label}
 pub use Rattle.dm_rule.proofs.Letters.{letter_of}
 pub use Rattle.dm_rule.proofs.Moves.Sent.{fits_packet, fits_put}
 pub use Rattle.dm_rule.proofs.Names.{Asks, Comes, Completing, HasCome, HomeStands, IsToken, Nexts, Room, StandsOnce, actor, after_packet, all_of, append-nil, at_least, brings_piece, comes_to, counts_process, eq-eqb, eqb-true, gone_after}
-pub use Rattle.dm_rule.proofs.Names.{has, has_mail, ids_at, is_due, is_quiet, is_stale, is_waited_from, kept_from, knowing, left_true, less, migrates_child, next_step, nobody, numbers_from, pair_is_quiet, repeats, resends, seen_at}
+pub use Rattle.dm_rule.proofs.Names.{has, has_mail, ids_at, is_due, is_quiet, is_stale, is_waited_from, kept_from, knowing, left_true, less, next_step, nobody, numbers_from, pair_is_quiet, repeats, resends, seen_at}
 pub use Rattle.dm_rule.proofs.Names.{serves_some, taking_parts, tells_come, token_in}
 pub use Rattle.dm_rule.proofs.Pairs.{Pairs, pair_home, pair_stands, pairs_stand_always}
 pub use Rattle.dm_rule.proofs.Pairs.Comes.{less-right}
@@ -83,7 +84,7 @@ pub use Rattle.dm_rule.specs.Worn.{full_route, is_full, worn_in}
 pub use Rattle.dm_places.proofs.Any.AnyLine.{no_process}
 pub use Rattle.dm_places.proofs.Any.AnyRun.{group_needs, places_follow_by}
 pub use Rattle.dm_places.proofs.Following.Changed.{free_off, plain_sent_on}
-pub use Rattle.dm_places.proofs.Following.Followed.{among_times, called_mirrors, forwarded_mirrors, moves_forwarded, restarted_mirrors, sent_on_mirrors, update_gets}
+pub use Rattle.dm_places.proofs.Following.Followed.{absent_moved, among_times, called_mirrors, forwarded_mirrors, moves_forwarded, process_restarted, sent_on_mirrors, update_gets}
 pub use Rattle.dm_places.proofs.Following.Updated.{board_told, manager_told, updated_board_mirrors, updated_ended_mirrors, updated_manager_mirrors, updated_mirrors}
 pub use Rattle.dm_places.proofs.Following.UpdatedCounts.{updated_board_count, updated_count, updated_manager_count}
 pub use Rattle.dm_places.proofs.Keeps.{of_map, parts, there_of}
@@ -100,7 +101,7 @@ pub use Rattle.dm_places.proofs.Names.{id_eq-same, id_eq-swap, id_of, instructio
 pub use Rattle.dm_places.proofs.Names.{named_is_behind, nat_le, not_kernels, or-left, or-right, or_second, outcome, own_given, own_id, pending_is_behind, pending_request, pid_eq-is, pid_eq-same, piece_of, place_of, place_told, placed_start}
 pub use Rattle.dm_places.proofs.Names.{placed_step, plain_board, plain_called, plain_child, plain_completed, plain_kind, plain_landed, plain_link, plain_manager, plain_message, plain_named, plain_note, plain_pending, plain_pending_numbered}
 pub use Rattle.dm_places.proofs.Names.{plain_process, plain_status, plain_what, preds_of, puts, receiver_of, seen, sent_all, sent_on, slice_get-map, slot_is_behind, slots_of, slots_with, sort_of, spelled, standing, started, started_at}
-pub use Rattle.dm_places.proofs.Names.{status_plainly, times, to_kernel, unmoved, view_after, what_is_on, when-is, with_note, with_what, without_note, written_at}
+pub use Rattle.dm_places.proofs.Names.{acting_place, status_plainly, times, to_kernel, unmoved, view_after, what_is_on, when-is, with_note, with_what, without_note, written_at}
 pub use Rattle.dm_places.proofs.OwnPuts.{child_place, no_child, own_put_mirrors}
 pub use Rattle.dm_places.proofs.Queues.{calls_with, with_queue}
 pub use Rattle.dm_places.proofs.Starts.{start_mirrors}
@@ -111,7 +112,7 @@ pub use Rattle.dm_kernel.proofs.LawfulRows.{of_known}
 pub use Rattle.dm_kernel.proofs.LawfulStart.{opened_lawful, opened_may}
 pub use Rattle.dm_kernel.proofs.LawfulTurns.{before_lawful}
 pub use Rattle.dm_kernel.proofs.Making.{image_fits}
-pub use Rattle.dm_kernel.proofs.Names.{Block, BootMachine, Chunk, FitsBoardWhat, FitsEnded, FitsHere, FitsKernel, FitsKnown, FitsManager, FitsManagerWhat, FrontMay, HasChunk, HasTaken, IfSome, IsAwaited, IsForManager, IsLawfulPair}
+pub use Rattle.dm_kernel.proofs.Names.{Block, BootMachine, Chunk, FitsEnded, FitsHere, FitsKernel, FitsKnown, FitsManager, FrontMay, HasChunk, HasTaken, IfSome, IsAwaited, IsForManager}
 pub use Rattle.dm_kernel.proofs.Names.{IsLawfulProcess, IsLawfulStatus, IsServer, IsSuch, IsWithin, MayHandle, MayRestart, MayTurn, Nothing, Result, Taken, Wanted, all_sent_back, all_sent_on, ask_of, blocks_at, blocks_of_image, expected}
 pub use Rattle.dm_kernel.proofs.Names.{free_blocks, free_slots, freezes, freezing, frozen, image_is_valid, is_on, length-drop, links_are_valid, next_pid, opened, own, process_is_valid, process_named, processes_are_valid, pull}
 pub use Rattle.dm_kernel.proofs.Names.{range_with_len, receive_refusals, room_of, starting_at, tells_asker, turned, turns, update_of, with_frozen, with_pred, with_record, with_released, with_reserved, with_sent, without, without_arriving}
@@ -119,7 +120,7 @@ pub use Rattle.dm_kernel.proofs.Names.{without_first_on, without_preds, ◌/◌}
 pub use Rattle.dm_kernel.proofs.Opening.{room_from}
 pub use Rattle.dm_kernel.proofs.Serving.{call_keeps, ran_keeps}
 pub use Rattle.dm_kernel.specs.Carried.{FreezesReceiverWhole, KnownIsWhole}
-pub use Rattle.dm_kernel.specs.Coming.{is_expected, piece_line, with_expected}
+pub use Rattle.dm_kernel.specs.Coming.{is_expected, with_expected, piece_lines}
 pub use Rattle.dm_kernel.specs.Departing.{without_leaving}
 pub use Rattle.dm_kernel.specs.Handle.{queued}
 pub use Rattle.dm_kernel.specs.May.{FitsBoard, MayLeave}
@@ -140,7 +141,7 @@ pub use Rattle.dm_rulelaws.proofs.Goes.Front.{ForWhom, Front, begun, for_whom, h
 pub use Rattle.dm_rulelaws.proofs.Goes.Own.{apart_is, is_it, source_knows}
 pub use Rattle.dm_rulelaws.proofs.Goes.Process.{alive_of, gone_is}
 pub use Rattle.dm_rulelaws.proofs.Goes.Runs.{Both, RunGoes, RunStarts, both_group, both_start}
-pub use Rattle.dm_rulelaws.proofs.Goes.Servers.{can_handle, pending_is, server_fixed}
+pub use Rattle.dm_rulelaws.proofs.Goes.Servers.{can_handle, pending_is}
 pub use Rattle.dm_rulelaws.proofs.Goes.Serves.{reply_same, running_of}
 pub use Rattle.dm_rulelaws.proofs.Goes.Turns.{Droppable, IsFor, at_hand_of, droppable_on, dropped_is, queue_drops, user_dropped}
 pub use Rattle.dm_rulelaws.proofs.Names.{AllSayable, Called, Held, Here, InPhases, IsIn, IsLeft, IsNet, IsNetLine, IsPending, IsRun, LandsSo, LeadsBy, LeftOver, Moves, Moving, NothingElse, Of, PendingFits, Phase, Phased, Queue, Ready}
@@ -151,10 +152,10 @@ pub use Rattle.dm_rulelaws.proofs.Names.{forward_about, forwards_on, free_room, 
 pub use Rattle.dm_rulelaws.proofs.Names.{is_alive, is_apart, is_away, is_between, is_calloff, is_counted, is_dropped, is_early, is_fixed, is_for, is_here, is_kill, is_put, is_restart, is_server, kernel_hears, kernels_fresh, kind_comes}
 pub use Rattle.dm_rulelaws.proofs.Names.{kind_eq, kind_leaves, known_at, knows, labels, lands-is, least_of, leaves_for, length-append, letters, life_at, machine_of, manager_takes_lem, migrates, move_target, nexts, not_false, not_first}
 pub use Rattle.dm_rulelaws.proofs.Names.{not_server, not_true, oldest, option_and_then, out_off, outcome_sayable, packet_line, pair_keeps, part_sane, piece_fits, pieces_of, process_told, proto_acting, pulled, pulls_piece, put_at}
-pub use Rattle.dm_rulelaws.proofs.Names.{put_told_off, queued_for, receiver_in, reception, replay, reply_code, resends_net, rests_here, ring_at, rings, routed_on, sane_line, sender_in, sends_on, served_id, server_at, source_holds}
-pub use Rattle.dm_rulelaws.proofs.Names.{stands_right, start, status_awaits, takes_block, takes_chunk, target_of, tells_end, tells_onward, times-append, to_of, token_at, token_is, told_between, told_ended, told_here, told_server, told_some}
+pub use Rattle.dm_rulelaws.proofs.Names.{put_told_off, queued_for, receiver_in, reception, replay, reply_code, resends_net, rests_here, ring_at, rings, routed_on, sane_line, sender_in, sends_on, served_id, source_holds}
+pub use Rattle.dm_rulelaws.proofs.Names.{stands_right, start, status_awaits, takes_block, takes_chunk, target_of, tells_end, tells_onward, times-append, to_of, token_at, token_is, told_between, told_ended, told_here, told_some}
 pub use Rattle.dm_rulelaws.proofs.Names.{told_step, unentered, untaken, updates, when, why_code, with_process, without_front, without_id, without_message, zero_if}
-pub use Rattle.dm_rulelaws.proofs.Own.Told.{OwnTold, is_place, is_process, is_target, own_server, own_sort}
+pub use Rattle.dm_rulelaws.proofs.Own.Told.{OwnTold, is_place, is_process, is_target, own_sort}
 pub use Rattle.dm_rulelaws.proofs.Queued.{IsQueued}
 pub use Rattle.dm_rulelaws.proofs.RunLabels.{after_replay, group_replay, labels-append, replay-append}
 pub use Rattle.dm_rulelaws.proofs.Runs.{Run}
@@ -162,11 +163,11 @@ pub use Rattle.dm_rulelaws.proofs.RunsAlways.{run_always, run_group, run_start}
 pub use Rattle.dm_rulelaws.proofs.Tables.Always.{format_always, tables_always}
 pub use Rattle.dm_node.proofs.Here.{StaysAt, asks_move_stays, calls_off_stays, turn_stays}
 pub use Rattle.dm_node.proofs.Names.{All-append, All-cons, All-drop, All-get_or, All-nil, All-push, Arrival, Arrived, Asker, BootImage, BootProcess, Completion, Departure, Early, Halt, IsLawfulMessage, IsLawfulPart, IsLawfulTurned}
-pub use Rattle.dm_node.proofs.Names.{IsMachine, IsRoute, KernelKnown, KernelState, Landed, Landing, MoveError, Old, Part, Process, Receiving, Sending, Servers, Status, Turned, What, accepts, acknowledges, acts, after_arrival, after_next}
+pub use Rattle.dm_node.proofs.Names.{IsMachine, IsRoute, KernelKnown, KernelState, Landed, Landing, MoveError, Old, Part, Process, Receiving, Sending, Status, Turned, What, accepts, acknowledges, acts, after_arrival, after_next}
 pub use Rattle.dm_node.proofs.Names.{after_serving, again, all_out, arrival, asked_lawful, asks_manager, asks_move, before, before_turn, begins_process, bind, block_of, board_handles, called_off_lawful, calls_arriving_off, calls_off}
 pub use Rattle.dm_node.proofs.Names.{child_of, chunk_of, comes_in, count_out, counts_out, due, empty, ended_handles, first_on, first_out, forwards_and, fresh_receiving, fresh_sending, frozen_of, given_count, gives, gives_piece, handles}
 pub use Rattle.dm_node.proofs.Names.{hears_piece, here_handles, incoming_of, is_not_called, is_some, is_told_back, is_whole, is_worn, kernel_handles, kind_of, leaves, lets_next, makes, manager, manager_handles, moved_back, moved_up}
-pub use Rattle.dm_node.proofs.Names.{moves_child, nat_lt, next, none_waits, numbered, outstanding, process_handles, put_line, restarted, restarts, restarts_as, routes, routes_away, routes_home, says_stale, sends_due, serving_answer}
+pub use Rattle.dm_node.proofs.Names.{nat_lt, next, none_waits, numbered, outstanding, process_handles, put_line, restarted, restarts, restarts_as, routes, routes_away, routes_home, says_stale, sends_due, serving_answer}
 pub use Rattle.dm_node.proofs.Names.{state_of, stays, switchboard, takes_next, takes_piece, then_, then_acknowledges, told_to_move, took_piece, turn, turn_lawful, turns_back, window, with_acked, with_all, with_child, with_given, with_here}
 pub use Rattle.dm_node.proofs.Names.{with_message, with_piece, with_receiver, with_sender}
 pub use Rattle.dm_node.proofs.Staying.{MayAfter, arrives_may, turn_may}
@@ -194,6 +195,7 @@ pub use Rattle.dm_mirror.specs.Own.{AllOwnStand, OwnStands, about_of, told_of}
 pub use Rattle.dm_mirror.specs.Ran.{Ran, RanBegins, RanGoesOn, RunIsRan, ones}
 pub use Rattle.dm_mirror.specs.Run.{GoesOn, RunStands, Steps, StopsWorn, joined}
 pub use Rattle.dm_mirror.specs.Stands.{AreMessages, CanBeCarried, ComesStand, CountsStand, HereStands, History, KernelStands, KnownStands, LeavesStand, NodeStands, PairStands, PredsStand, RoomStands, Stands, StandsWith, bytes_of, line_of}
-pub use Rattle.dm_mirror.specs.Stands.{load_of, message_id, servers_at, stream_of}
+pub use Rattle.dm_mirror.specs.Stands.{load_of, message_id, stream_of}
 pub use Rattle.dm_mirror.specs.Todo.{IsDirective, IsTodo, IsTwo}
-pub use Rattle.dm_mirror.specs.Tokens.{AllRecords, Carries, IsAsked, LeftCarries, LeftStands, TokenStands, TokensStand, Wants, cargo_at, destination_of, is_due_piece, is_piece, source_of}
+pub use Rattle.dm_mirror.specs.Tokens.{AllRecords, Carries, IsAsked, LeftCarries, LeftStands, TokenStands, TokensStand, Wants, cargo_at, destination_of, is_due_piece, is_piece, source_of, resident_at}
+pub use Rattle.dm_migrate.specs.Answer.{IsAskToCome}

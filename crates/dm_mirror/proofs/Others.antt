@@ -1,6 +1,6 @@
 -- A turn on one machine leaves the kernels of the others as they stand, and each pair.
 use Rattle.dm_mirror.proofs.Names.{◌≡◌, ◌≢◌, ℕ, zero, suc, ◌+◌, ◌≤◌, ◌==◌, true, not, List, refl, ap, ◌∙◌, sym, subst, inl, inr, arith, if◌then◌else◌, drop, slice_get, eqb_tells, Pid, nat_tests, pid_of, MsgId, Boot, first_number, Point}
-use Rattle.dm_mirror.proofs.Names.{Room, and, blocks_of, takes_room, taken_at, taken_by, taken_of_home, Queue, Held, Inbox, Untaken, standing, Placed, KernelState, room_of, WorldState, AreMessages, KnownStands, RoomStands, servers_at}
+use Rattle.dm_mirror.proofs.Names.{Room, and, blocks_of, takes_room, taken_at, taken_by, taken_of_home, Queue, Held, Inbox, Untaken, standing, Placed, KernelState, room_of, WorldState, AreMessages, KnownStands, RoomStands}
 use Rattle.dm_mirror.proofs.Names.{KernelStands, History, PairStands, stream_of}
 use Rattle.dm_mirror.proofs.Streams.{Joined, joined, pair_stands}
 pub use Rattle.dm_rule.proofs.QuietTests.{eq_not as apart_tells}
@@ -53,20 +53,18 @@ module _ (pt next : Point) (n m : ℕ) (made : MadeHere m n pt next) (same : (p 
   ]
 
 -- the kernel of another machine stays
--- the servers are on machine 0
 pub kernel_stays : (b : Boot) (m n : ℕ) (pt next : Point) (l placed : Placed) (k : KernelState) → n ≢ m → MadeHere m n pt next → Elsewhere m pt l next placed → KernelStands b pt l n k
     → KernelStands b next placed n k
 kernel_stays b m n pt next l placed k apart made e h =
     let other : not (n == m) ≡ true = ap not (apart_tells n m apart) in
     record {
       here = h.here;
-      known = λ p server.
+      known = λ p.
           subst (λ (ids : List MsgId). KnownStands placed p ids (next.view.held n p) (next.view.known n p) (k.records p)) (sym (e.queue n p apart))
           (subst (λ (js : List MsgId). KnownStands placed p (pt.view.queue n p) js (next.view.known n p) (k.records p)) (sym (e.held n p apart))
           (subst (λ (c : view.Known). KnownStands placed p (pt.view.queue n p) (pt.view.held n p) c (k.records p)) (sym (e.known n p apart))
-          (known_same l placed p (pt.view.queue n p) (pt.view.held n p) (λ i stands. e.bag i (Queue n p) other stands) (λ i stands. e.bag i (Held n p) other stands) (pt.view.known n p) (k.records p)
-          (λ is. e.process n p apart is) (λ is. e.notes n p apart is) (h.known p server))));
-      no_server = h.no_server;
+          (known_same l placed p (pt.view.queue n p) (pt.view.held n p) e.system (λ i stands. e.bag i (Queue n p) other stands) (λ i stands. e.bag i (Held n p) other stands) (pt.view.known n p) (k.records p)
+          (λ is. e.resident n p apart is) (λ is. e.notes n p apart is) (h.known p))));
       preds = record { same = λ p. h.preds.same p ∙ sym (e.preds n p apart); within = h.preds.within };
       ring = h.ring ∙ sym (e.ring n apart);
       inbox = subst (λ (ids : List MsgId). AreMessages placed.bag ids k.inbox) (sym (e.inbox n apart)) (messages_stay l.bag placed.bag (pt.view.inbox n) k.inbox (λ i stands. e.bag i (Inbox n) other stands) h.inbox);
@@ -75,7 +73,6 @@ kernel_stays b m n pt next l placed k apart made e h =
           subst (RoomStands k.room (room_of (slice_get b.machines n)))
           (sym (ap (taken_at next n) e.machines ∙ same_homes pt next n pt.kernel.machines (λ h low. home_is pt next n m made (λ p. grind (arith, nat_tests, taken_life, none_taken)) h (e.made h))))
           h.room;
-      servers = h.servers ∙ sym (let e_ : servers_at placed n ≡ servers_at l n = grind (arith, nat_tests, eqb_tells, e.board, e.manager) in e_);
     }
 
 -- both ends of a stream, its wire and its pair stay, and the messages that were not taken yet

@@ -64,7 +64,7 @@ still_over ended d s t before now none same (OneEnds m q y turn is ends) p = abs
 
 -- before a turn the kernel says nothing of it
 pub before_stands : (b : Boot) (pt : Point) (l : Placed) (m : ℕ) (k : KernelState) → KernelStands b pt l m k → KernelStands b pt l m (before_turn k)
-before_stands b pt l m k h = record { here = h.here; known = h.known; no_server = h.no_server; ring = h.ring; inbox = h.inbox; made = h.made; room = h.room; servers = h.servers; preds = h.preds }
+before_stands b pt l m k h = record { here = h.here; known = h.known; ring = h.ring; inbox = h.inbox; made = h.made; room = h.room; preds = h.preds }
 
 pub before_whole : (k : KernelState) (ms : List Message) → FreezesWhole k ms → FreezesWhole (before_turn k) ms
 before_whole k [] h = tt

@@ -3,6 +3,7 @@
 use Rattle.dm_mirror.proofs.Names.{◌≡◌, ℕ, ◌+◌, ◌≤◌, ◌<◌, ◌==◌, ◌&&◌, ◌||◌, Bool, true, false, List, [], ◌∷◌, refl, ap, ◌∙◌, sym, inl, inr, arith, if◌then◌else◌, cases_Bool, nat_tests, Pid, pid_eq, pid_eq-is, Boot, at_record, length, zero}
 use Rattle.dm_mirror.proofs.Names.{suc, filter, range_with_len, machines_with, with_pred, without_preds, added, nobody, with_caller, PredsStand}
 use Rattle.dm_mirror.proofs.Kernel.Sets.{eq_self, off_if, on_if}
+use Rattle.dm_rule.proofs.Serving.{neither}
 
 -- the machine itself, by whether this is the process
 here_on : {X : Type 0} (f : ℕ → Pid → X) (m : ℕ) (p q : Pid) (x : X) → pid_eq p q ≡ true → at_record f m p x m q ≡ x
@@ -10,9 +11,6 @@ here_on f m p q x e = on_if ((m == m) && pid_eq p q) x (f m q) (ap (λ (c : Bool
 
 here_off : {X : Type 0} (f : ℕ → Pid → X) (m : ℕ) (p q : Pid) (x : X) → pid_eq p q ≡ false → at_record f m p x m q ≡ f m q
 here_off f m p q x e = off_if ((m == m) && pid_eq p q) x (f m q) (ap (λ (c : Bool). c && pid_eq p q) (eq_self m) ∙ e)
-
-or_none : (c d : Bool) → c ≡ false → d ≡ false → (c || d) ≡ false
-or_none c d e f = (λ i. e i || d) ∙ f
 
 and_off : (c d : Bool) → d ≡ false → (c && d) ≡ false
 and_off true d e = e
@@ -32,7 +30,7 @@ added_stand b said kept m n p less h = record {
         let first : with_pred kept p n q ≡ kept q = λ i j. (off i && (n == j)) || kept q j in
         first ∙ h.same q ∙ sym (here_off said m p q (added n (said m p)) off)
   ];
-  within = λ q j far. or_none (pid_eq p q && (n == j)) (kept q j) (and_off (pid_eq p q) (n == j) (not_far n j (length b.machines) less far)) (h.within q j far);
+  within = λ q j far. neither (pid_eq p q && (n == j)) (kept q j) (and_off (pid_eq p q) (n == j) (not_far n j (length b.machines) less far)) (h.within q j far);
 }
 
 -- a process stays where it was, and nobody called its migration off

@@ -3,7 +3,9 @@ use Rattle.dm_mirror.proofs.Names.{◌≡◌, ℕ, ◌+◌, List, [], ◌∷◌,
 use Rattle.dm_mirror.proofs.Names.{asks_move_stays, turn_stays, WorldState, Said, acted, delivers, reads, world_step, MayDeliver, MayRead, MayStep, AreReadBack, IsReadable, gave, gave_bytes, gave_read, gave_some, calls_off_stays}
 use Rattle.dm_mirror.proofs.Names.{keeps_over}
 use Rattle.dm_world.proofs.Names.{Ok}
-use Rattle.dm_world.specs.World.{Says, turned}
+use Rattle.dm_world.specs.World.{Says, asks_at, seat_of, turned}
+use Rattle.dm_world.specs.Readable.{gave_at}
+use Rattle.dm_mirror.proofs.Names.{Pid, length}
 use Rattle.dm_kernel.specs.Asking as asking
 use Rattle.dm_kernel.specs.Coming as coming
 use Rattle.dm_kernel.specs.Turn as kernel
@@ -39,11 +41,17 @@ deliver_readable w a c k None s may e again h =
     let same : record { state = record w { groups = w.groups + 1 }; lines = Line.Head (Step.Deliver a c k) ∷ Line.Nothing ∷ [] } ≡ s = cc in subst (λ (x : Said). IsReadable x.state) same (record { reads = h.reads; out = h.out })
 deliver_readable w a c k (Some bytes) s may e again h = read_readable w a c k (packet_of bytes) s may e again h
 
+-- the manager is asked where it is; while it is on its way nothing is put
+ask_readable : (w : WorldState) (p : Pid) (m : ℕ) (o : Option ℕ) (s : Said) → asks_at w (Step.Migrate p m) p m o ≡ Some (Says s) → AreReadBack (gave_at w p m o) → IsReadable w → IsReadable s.state
+ask_readable w p m None s e again h =
+    let same : record { state = record w { groups = w.groups + 1 }; lines = Line.Head (Step.Migrate p m) ∷ Line.Away ∷ [] } ≡ s = cc in subst (λ (x : Said). IsReadable x.state) same (record { reads = h.reads; out = h.out })
+ask_readable w p m (Some seat) s e again h = turn_is_readable w (Step.Migrate p m) seat (asking.asks_move (w.nodes seat).kernel p m) s (asks_move_stays (w.nodes seat).kernel p m) e again h
+
 pub readable_step : (b : Boot) (w : WorldState) (e : Step) (s : Said) → MayStep b w e → world_step b w e ≡ Some (Says s) → AreReadBack (gave b w e) → IsReadable w → IsReadable s.state
 readable_step b w (Step.Turn m) s may happens again h =
     turn_is_readable (keeps_over w (node.turn b (w.nodes m))) (Step.Turn m) m (kernel.turn b (w.nodes m).kernel) s (turn_stays b (w.nodes m).kernel) happens again (record { reads = h.reads; out = h.out })
 readable_step b w (Step.Tick m) s may happens again h =
     let same : acted w (Step.Tick m) m (node.tick (w.nodes m)) ≡ s = cc in subst (λ (x : Said). IsReadable x.state) same (tick_readable w (Step.Tick m) m again h)
 readable_step b w (Step.Deliver a c k) s may happens again h = deliver_readable w a c k (bytes_at (w.wires a c) k) s may.3 happens again h
-readable_step b w (Step.Migrate p m) s may happens again h = turn_is_readable w (Step.Migrate p m) 0 (asking.asks_move (w.nodes 0).kernel p m) s (asks_move_stays (w.nodes 0).kernel p m) happens again h
+readable_step b w (Step.Migrate p m) s may happens again h = ask_readable w p m (seat_of (length b.machines) w.nodes) s happens again h
 readable_step b w (Step.CallOff p m) s may happens again h = turn_is_readable w (Step.CallOff p m) m (coming.calls_off (w.nodes m).kernel p) s (calls_off_stays (w.nodes m).kernel p) happens again h

@@ -1,6 +1,7 @@
 -- What the processes of the lines take of a machine's room: it stays where each of them takes the same, and changes with one
 -- that takes something else, or is made.
-use Rattle.dm_mirror.proofs.Names.{◌≡◌, ◌≢◌, ℕ, zero, suc, ◌+◌, ◌<◌, ◌≤◌, refl, ap, ◌∙◌, sym, inl, inr, arith, eqb_tells, Pid, pid_of, first_number, Point, Room, and, taken_by, taken_of_home, taken_at, nat_tests}
+use Rattle.dm_mirror.proofs.Names.{◌≡◌, ◌≢◌, ℕ, zero, suc, ◌+◌, ◌<◌, ◌≤◌, refl, ap, ◌∙◌, sym, inl, inr, arith, eqb_tells, Pid, pid_of, first_number, Point, Room, and, taken_by, taken_of_home, taken_at, nat_tests, is_server, false}
+use Rattle.dm_mirror.proofs.Residents.{made_no_server}
 
 -- a process of another home, or with another number
 home_apart : (home n : ℕ) (p : Pid) → home ≢ p.home → pid_of home n ≢ p
@@ -104,6 +105,13 @@ pub taken_changed : (pt next : Point) (m : ℕ) (p : Pid) → next.kernel.machin
     → ((taken_at next m next.kernel.machines).slots + (taken_by pt m p).slots ≡ (taken_at pt m pt.kernel.machines).slots + (taken_by next m p).slots)
     × ((taken_at next m next.kernel.machines).blocks + (taken_by pt m p).blocks ≡ (taken_at pt m pt.kernel.machines).blocks + (taken_by next m p).blocks)
 taken_changed pt next m p machines made within first below others = grind (arith, nat_tests, changed_homes)
+
+-- what a server takes isn't counted
+pub taken_but_servers : (pt next : Point) (m : ℕ) → next.kernel.machines ≡ pt.kernel.machines → ((h : ℕ) → next.kernel.made h ≡ pt.kernel.made h)
+    → ((p : Pid) → is_server p ≡ false → taken_by next m p ≡ taken_by pt m p) → taken_at next m next.kernel.machines ≡ taken_at pt m pt.kernel.machines
+taken_but_servers pt next m machines made same =
+    ap (taken_at next m) machines
+    ∙ same_homes pt next m pt.kernel.machines (λ home less. ap (taken_of_home next m home) (made home) ∙ same_home pt next m home (pt.kernel.made home) (λ k few. same (pid_of home (first_number + k)) (made_no_server home k)))
 
 made_home : (pt next : Point) (m home : ℕ) → next.kernel.made home ≡ pt.kernel.made home + 1
     → ((q : Pid) → q ≢ pid_of home (first_number + pt.kernel.made home) → taken_by next m q ≡ taken_by pt m q)

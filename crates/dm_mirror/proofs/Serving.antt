@@ -1,6 +1,6 @@
 -- The process that a turn serves, and what serving it gives by the machine and by the rule.
 use Rattle.dm_mirror.proofs.Names.{◌≡◌, ◌≢◌, ℕ, ◌+◌, ◌≤◌, ◌&&◌, Bool, true, false, List, [], ◌∷◌, ◌++◌, map, length, refl, ap, ◌∙◌, sym, subst, inl, inr, arith, if◌then◌else◌, Option, Some, cases_Bool, false≢true, Pid, pid_eq, nat_tests}
-use Rattle.dm_mirror.proofs.Names.{Message, MsgId, id_eq, PlainMessage, Process, Record, Boot, Alive, OneKernel, plain_process, id_eq-is, pid_eq-same, Sound, Line, Point, after, moved_back, Spot, Queue, times, standing, StandsRight, View}
+use Rattle.dm_mirror.proofs.Names.{Message, MsgId, id_eq, PlainMessage, Process, Record, Resident, Boot, Alive, OneKernel, plain_process, id_eq-is, pid_eq-same, Sound, Line, Point, after, moved_back, Spot, Queue, times, standing, StandsRight, View}
 use Rattle.dm_mirror.proofs.Names.{receiver_of, once_at, Droppable, IsFor, Placed, Mirrors, with_queue, KernelState, Turned, with_here, AllOwnStand, MadeStands, AreMessages, KernelStands, Part, Step, None, id_of, pid_of}
 use Rattle.dm_onekernel.specs.Step as kernel
 use Rattle.dm_rule.specs.Parts as rule
@@ -63,7 +63,7 @@ pub goes_on_acts : (b : Boot) (m : ℕ) (pt next : Point) (l placed : Placed) (k
     → length y.memory ≡ length x.memory → IsSent placed route → are_still says ≡ true
     → Acts b m pt l k p (Some (record { state = with_here (moved_round k p) p y; parts = map Part.Says says ++ routed route })) (Some (map rule.Says says ++ rule_routed route))
 goes_on_acts b m pt next l placed k p x y queue says route s leads mirrors leaves known preds ring alive there messages memory sent still =
-    let records : (q : Pid) → pid_eq p q ≡ false → (with_here (moved_round k p) p y).records q ≡ k.records q = λ q off. off_if (pid_eq p q) (Some (Record.Here y)) (k.records q) off in
+    let records : (q : Pid) → pid_eq p q ≡ false → (with_here (moved_round k p) p y).records q ≡ k.records q = λ q off. off_if (pid_eq p q) (Some (Record.Here (Resident.Process y))) (k.records q) off in
     record {
       state = with_here (moved_round k p) p y;
       says = says;
@@ -74,8 +74,8 @@ goes_on_acts b m pt next l placed k p x y queue says route s leads mirrors leave
       after = leads;
       placed = placed;
       mirrors = mirrors;
-      kernel = goes_stands b m (is_queue_of m p) p pt next l placed k (with_here (moved_round k p) p y) x y queue s.at leaves (record { here = refl; records = records; made = refl; servers = refl; preds = λ q off. refl })
-          (λ q off. queue_of_others m p q off) (λ q. refl) (on_if (pid_eq p p) (Some (Record.Here y)) (k.records p) (pid_eq-same p)) refl (ap (moved_back p) s.stands.ring ∙ sym ring)
+      kernel = goes_stands b m (is_queue_of m p) p pt next l placed k (with_here (moved_round k p) p y) x y queue s.at leaves (record { here = refl; records = records; made = refl; preds = λ q off. refl })
+          (λ q off. queue_of_others m p q off) (λ q. refl) (on_if (pid_eq p p) (Some (Record.Here (Resident.Process y))) (k.records p) (pid_eq-same p)) refl (ap (moved_back p) s.stands.ring ∙ sym ring)
           (inbox_stands m (is_queue_of m p) p pt next l placed k.inbox leaves refl s.stands.inbox) known preds refl alive there messages memory s.stands;
       leaves = leaves;
       sent = sent;

@@ -1,7 +1,7 @@
 -- Elementary directives, one by one.
 use Rattle.dm_mirror.proofs.Names.{◌≡◌, ℕ, List, [], ◌∷◌, ◌++◌, length, refl, ap, ◌∙◌, sym, subst, arith, map-append, All-nil, Boot, IsValid, received_once, Step, Directive, Line, Todo, all_of, next_step, IsKept, IsRun, IsStep, Leads}
 use Rattle.dm_mirror.proofs.Names.{Point, first_point, stands_once_always, WorldState, MayStep, AreReadBack, gave, IsTwo, IsTodo, GoesOn, StepsStand, ones, Ran, RanBegins, RanGoesOn, RunIsRan, ◌+◌, ◌<◌, nat_tests, pid_of, first_number}
-use Rattle.dm_mirror.proofs.Names.{EndLine, joined_below, list_line, first_with, pair_home, Run, Placed, History, StandsWith, MadeStands, EndIsSaid, standing_of, seen_at}
+use Rattle.dm_mirror.proofs.Names.{EndLine, joined_below, list_line, first_with, pair_home, Run, Placed, History, StandsWith, MadeStands, EndIsSaid, Pid, manager, switchboard, standing_of, seen_at}
 use Rattle.dm_rule.specs.Ends as rule
 use Rattle.dm_rule.specs.Spots as spots
 use Rattle.dm_world.specs.Ends as world
@@ -10,11 +10,12 @@ use Rattle.dm_mirror.proofs.Machines.{machines_group, made_always}
 use Rattle.dm_mirror.proofs.May.{acts_start, acts_step}
 use Rattle.dm_mirror.proofs.Next.{machines_stay, next_fits}
 use Rattle.dm_mirror.proofs.Readable.{readable_step}
+use Rattle.dm_mirror.proofs.Lasting.{ServersLast}
 use Rattle.dm_mirror.proofs.Starting.{start_stands}
 use Rattle.dm_mirror.proofs.Staying.{kernel_stays}
 use Rattle.dm_mirror.proofs.Deliver.Outs.{first_readable}
-use Rattle.dm_mirror.proofs.End.Processes.{IsOfHome, holding_said, no_server, process_said, queue_said}
-use Rattle.dm_mirror.proofs.End.Servers.{servers_said, stream_said, homes_same, machines_same, names_are}
+use Rattle.dm_mirror.proofs.End.Processes.{IsOfHome, holding_said, no_server, process_said, queue_said, servers_said}
+use Rattle.dm_mirror.proofs.End.Servers.{stream_said, homes_same, machines_same, names_are}
 
 pub ran_begins : RanBegins
 ran_begins b valid = record {
@@ -83,10 +84,10 @@ record Final (b : Boot) (w : WorldState) (pt : Point) (l : Placed) (h : History)
   stands : StandsWith b w pt l h
   run : Run b pt
   made : MadeStands pt.kernel
-  some : 0 < pt.kernel.machines
+  lasts : ServersLast pt.view
 
-of_home : (b : Boot) (w : WorldState) (pt : Point) (l : Placed) (h : History) (home n : ℕ) → home < pt.kernel.machines → Final b w pt l h → IsOfHome b w pt l h (pid_of home (first_number + n))
-of_home b w pt l h home n below f = record { stands = f.stands; run = f.run; server = no_server home n }
+of_home : (b : Boot) (w : WorldState) (pt : Point) (l : Placed) (h : History) (p : Pid) → Final b w pt l h → IsOfHome b w pt l h p
+of_home b w pt l h p f = record { stands = f.stands; run = f.run }
 
 made_same : (b : Boot) (w : WorldState) (pt : Point) (l : Placed) (h : History) (m : ℕ) → m < pt.kernel.machines → Final b w pt l h → (w.nodes m).kernel.made ≡ pt.kernel.made m
 made_same b w pt l h m below f = (f.stands.nodes m below).kernel.made
@@ -98,57 +99,46 @@ streams_said b w pt l h f =
     (λ a from. machines_same (λ c. world.stream_line w a c) (λ c. list_line (EndLine.Stream a c) (spots.untaken (pt.view.pair a c))) pt.kernel.machines
     (λ c to. stream_said b pt l w h a c (pair_home pt.view a f.run.based.phased.pairs) (λ apart. f.stands.pairs a c from to apart)))
 
-holdings_said : (b : Boot) (w : WorldState) (pt : Point) (l : Placed) (h : History) → Final b w pt l h
-    → joined_below (λ m. world.homes_with w (world.held_line w m) pt.kernel.machines) pt.kernel.machines ≡ rule.holding_lines pt
+-- what a machine holds for the servers, and for each process
+holdings_said : (b : Boot) (w : WorldState) (pt : Point) (l : Placed) (h : History) → Final b w pt l h → joined_below (world.held_lines pt.kernel.machines w) pt.kernel.machines ≡ rule.holding_lines pt
 holdings_said b w pt l h f =
-    machines_same (λ m. world.homes_with w (world.held_line w m) pt.kernel.machines) (λ m. rule.each_process pt (λ p. list_line (EndLine.Holding m p) (pt.view.held m p))) pt.kernel.machines
-    (λ m below. homes_same w pt (world.held_line w m) (λ p. list_line (EndLine.Holding m p) (pt.view.held m p)) pt.kernel.machines (λ k less. made_same b w pt l h k less f)
-    (λ home n less fewer. holding_said b w pt l h (pid_of home (first_number + n)) (of_home b w pt l h home n less f) m below))
+    let held : ℕ → Pid → List EndLine = λ m p. list_line (EndLine.Holding m p) (pt.view.held m p) in
+    machines_same (world.held_lines pt.kernel.machines w) (λ m. rule.each_holder pt (held m)) pt.kernel.machines
+    (λ m below.
+    (let of_each : world.homes_with w (world.held_line w m) pt.kernel.machines ≡ rule.each_process pt (held m) =
+    homes_same w pt (world.held_line w m) (held m) pt.kernel.machines (λ k less. made_same b w pt l h k less f)
+    (λ home n less fewer. holding_said b w pt l h (pid_of home (first_number + n)) (of_home b w pt l h (pid_of home (first_number + n)) f) m below) in
+    λ i. holding_said b w pt l h switchboard (of_home b w pt l h switchboard f) m below i ++ holding_said b w pt l h manager (of_home b w pt l h manager f) m below i ++ of_each i))
 
 -- all lines, part by part
 abbrev ending : List EndLine → List EndLine → List EndLine → List EndLine → List EndLine → List EndLine → ℕ → List EndLine
 ending ps ss qs hs is ts groups = EndLine.Final ∷ ps ++ ss ++ qs ++ hs ++ is ++ ts ++ EndLine.Groups groups ∷ []
 
--- the servers are on machine 0
-end_same : (b : Boot) (w : WorldState) (pt : Point) (l : Placed) (h : History) → Final b w pt l h → world.end_lines pt.kernel.machines w ≡ rule.end_lines pt
+end_same : (b : Boot) (w : WorldState) (pt : Point) (l : Placed) (h : History) → Final b w pt l h → world.end_lines b w ≡ rule.end_lines pt
 end_same b w pt l h f =
     let n = pt.kernel.machines in
-    let ps = rule.each_process pt (λ p. rule.process_lines pt p (pt.kernel.processes p)) in
-    let ss = rule.server_lines pt in
-    let qs = world.homes_with w (world.queue_of n w) n in
-    let hs = joined_below (λ m. world.homes_with w (world.held_line w m) n) n in
-    let is = joined_below (λ m. list_line (EndLine.Inbox m) (world.names_of (w.nodes m).kernel.inbox)) n in
-    let ts = joined_below (λ a. joined_below (λ c. world.stream_line w a c) n) n in
-    let processes_said : (b : Boot) (w : WorldState) (pt : Point) (l : Placed) (h : History) → Final b w pt l h
-    → world.homes_with w (world.process_lines pt.kernel.machines w) pt.kernel.machines ≡ rule.each_process pt (λ p. rule.process_lines pt p (pt.kernel.processes p)) = λ b w pt l h f.
-    homes_same w pt (world.process_lines pt.kernel.machines w) (λ p. rule.process_lines pt p (pt.kernel.processes p)) pt.kernel.machines (λ m below. made_same b w pt l h m below f)
-    (λ home n below fewer. process_said b w pt l h (pid_of home (first_number + n)) (of_home b w pt l h home n below f) (f.made.all home n below fewer)) in
-    let queues_said : (b : Boot) (w : WorldState) (pt : Point) (l : Placed) (h : History) → Final b w pt l h → world.homes_with w (world.queue_of pt.kernel.machines w) pt.kernel.machines ≡ rule.queue_lines pt = λ b w pt l h f.
-    homes_same w pt (world.queue_of pt.kernel.machines w) (λ p. rule.queue_at pt.view p (first_with standing_of pt.view p pt.kernel.machines)) pt.kernel.machines (λ m below. made_same b w pt l h m below f)
-    (λ home n below fewer. queue_said b w pt l h (pid_of home (first_number + n)) (of_home b w pt l h home n below f) (f.made.all home n below fewer)) in
-    let inboxes_said : (b : Boot) (w : WorldState) (pt : Point) (l : Placed) (h : History) → Final b w pt l h
-    → joined_below (λ m. list_line (EndLine.Inbox m) (world.names_of (w.nodes m).kernel.inbox)) pt.kernel.machines ≡ rule.inbox_lines pt = λ b w pt l h f.
-    machines_same (λ m. list_line (EndLine.Inbox m) (world.names_of (w.nodes m).kernel.inbox)) (λ m. list_line (EndLine.Inbox m) (pt.view.inbox m)) pt.kernel.machines
+    let machines : length b.machines ≡ n = sym f.run.based.machines in
+    let processes : world.homes_with w (world.process_lines b w) n ≡ rule.each_process pt (λ p. rule.process_lines pt p (pt.kernel.processes p)) =
+    homes_same w pt (world.process_lines b w) (λ p. rule.process_lines pt p (pt.kernel.processes p)) n (λ m below. made_same b w pt l h m below f)
+    (λ home k below fewer. (let p = pid_of home (first_number + k) in process_said b w pt l h p (of_home b w pt l h p f) (no_server home k) (f.made.all home k below fewer))) in
+    let queues : world.homes_with w (world.queue_of (length b.machines) w) n ≡ rule.queue_lines pt =
+    homes_same w pt (world.queue_of (length b.machines) w) (λ p. rule.queue_at pt.view p (first_with standing_of pt.view p n)) n (λ m below. made_same b w pt l h m below f)
+    (λ home k below fewer. (let p = pid_of home (first_number + k) in queue_said b w pt l h p (of_home b w pt l h p f) (f.made.all home k below fewer))) in
+    let inboxes : joined_below (λ m. list_line (EndLine.Inbox m) (world.names_of (w.nodes m).kernel.inbox)) n ≡ rule.inbox_lines pt =
+    machines_same (λ m. list_line (EndLine.Inbox m) (world.names_of (w.nodes m).kernel.inbox)) (λ m. list_line (EndLine.Inbox m) (pt.view.inbox m)) n
     (λ m below. ap (list_line (EndLine.Inbox m)) (names_are l.bag (pt.view.inbox m) (w.nodes m).kernel.inbox (λ i x there. (f.stands.mirrors.places.message i x there).id) ((f.stands.nodes m below).kernel.inbox))) in
-    ap (λ (ls : List EndLine). ending ls (world.server_lines (w.nodes 0).kernel.servers) qs hs is ts w.groups) (processes_said b w pt l h f)
-    ∙ (ap (λ (ls : List EndLine). ending ps ls qs hs is ts w.groups) (let e_ : world.server_lines (w.nodes 0).kernel.servers ≡ rule.server_lines pt = grind (arith, nat_tests, servers_said) in e_)
-    ∙ (ap (λ (ls : List EndLine). ending ps ss ls hs is ts w.groups) (queues_said b w pt l h f)
-    ∙ (ap (λ (ls : List EndLine). ending ps ss (rule.queue_lines pt) ls is ts w.groups) (holdings_said b w pt l h f)
-    ∙ (ap (λ (ls : List EndLine). ending ps ss (rule.queue_lines pt) (rule.holding_lines pt) ls ts w.groups) (inboxes_said b w pt l h f)
-    ∙ (ap (λ (ls : List EndLine). ending ps ss (rule.queue_lines pt) (rule.holding_lines pt) (rule.inbox_lines pt) ls w.groups) (streams_said b w pt l h f)
-    ∙ ap (ending ps ss (rule.queue_lines pt) (rule.holding_lines pt) (rule.inbox_lines pt) (rule.stream_lines pt)) f.stands.groups)))))
-
--- where the world stands for a point
-pub end_is : (b : Boot) (w : WorldState) (pt : Point) (l : Placed) (h : History) → IsValid b → Run b pt → MadeStands pt.kernel → StandsWith b w pt l h → world.end_lines (length b.machines) w ≡ rule.end_lines pt
-end_is b w pt l h valid run made stands =
-    let machines = run.based.machines in
-    let least = valid.some_machines in
-    let some : 0 < pt.kernel.machines = grind (arith, nat_tests) in
-    ap (λ (n : ℕ). world.end_lines n w) (sym machines) ∙ end_same b w pt l h (record { stands = stands; run = run; made = made; some = some })
+    let servers = servers_said b w pt l h f.stands f.run f.lasts in
+    (λ i. ending (world.homes_with w (world.process_lines b w) (machines i)) (world.server_lines b w) (world.homes_with w (world.queue_of (length b.machines) w) (machines i)) (joined_below (world.held_lines (machines i) w) (machines i))
+    (joined_below (λ m. list_line (EndLine.Inbox m) (world.names_of (w.nodes m).kernel.inbox)) (machines i)) (joined_below (λ a. joined_below (λ c. world.stream_line w a c) (machines i)) (machines i)) w.groups)
+    ∙ (λ i. ending (processes i) (servers i) (queues i) (holdings_said b w pt l h f i) (inboxes i) (streams_said b w pt l h f i) (f.stands.groups i))
 
 -- all that holds wherever the rule leads
 abbrev pub RunAlways : Type 0
 RunAlways = (b : Boot) (es : List Step) (pt : Point) → IsValid b → Leads b (first_point b) es pt → Run b pt
 
-pub end_is_said_by : RunAlways → EndIsSaid
-end_is_said_by runs b es w pt valid leads ((l, h, stands), counts) = end_is b w pt l h valid (runs b es pt valid leads) (made_always b es pt valid leads) stands
+abbrev pub LastAlways : Type 0
+LastAlways = (b : Boot) (es : List Step) (pt : Point) → IsValid b → Leads b (first_point b) es pt → ServersLast pt.view
+
+pub end_is_said_by : RunAlways → LastAlways → EndIsSaid
+end_is_said_by runs lasts b es w pt valid leads ((l, h, stands), counts) =
+    end_same b w pt l h (record { stands = stands; run = runs b es pt valid leads; made = made_always b es pt valid leads; lasts = lasts b es pt valid leads })

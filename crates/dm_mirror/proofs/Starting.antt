@@ -1,9 +1,12 @@
 -- What a machine has as the boot file has it, field by field.
 use Rattle.dm_mirror.proofs.Names.{◌≡◌, ℕ, ◌<◌, ◌==◌, Bool, true, false, List, [], ◌∷◌, length, map, refl, ap, ◌∙◌, sym, subst, is_some, nat_lt, arith, if◌then◌else◌, slice_get, Option, None, Some, nat_tests, All-nil, Pid, pid_eq, Message}
 use Rattle.dm_mirror.proofs.Names.{IsLawfulMessage, Process, Sending, fresh_sending, fresh_receiving, kept_under, StreamStands-start, BootImage, BootProcess, Boot, IsValid, process_named, bind, first_life, KernelState, child_of, empty}
-use Rattle.dm_mirror.proofs.Names.{opened, room_of, with_all, with_child, opened_lawful, Record, placed_start, started, start_mirrors, first_point, Known, is_server, first_world, History, KernelStands, KnownStands, PairStands, StartStands}
+use Rattle.dm_mirror.proofs.Names.{opened, room_of, with_all, with_child, opened_lawful, Record, Resident, switchboard, manager, placed_start, started, start_mirrors, first_point, Known, is_server, first_world, History, KernelStands, KnownStands, PairStands, StartStands}
 use Rattle.dm_mirror.proofs.Names.{◌+◌, ◌++◌, append_assoc, append-nil, starting_at, blocks_at, blocks_of_image, processes_are_valid, pid_eq-is, ring_at, begins_process, KernelKnown, Life, option_map, Alive, plain_link, life_at, why_ended}
 use Rattle.dm_onekernel.specs.Start.{begun}
+use Rattle.dm_kernel.specs.Begun.{bare, with_servers}
+use Rattle.dm_procman.specs.Managing.{starting}
+use Rattle.dm_mirror.proofs.Residents.{OfBoard, OfManager, OfProcess, process_at, server_apart, who}
 use Rattle.dm_records.specs.declared.record.Record.TheVariants.{Here}
 use Rattle.dm_stream.specs.Order as order
 use Rattle.dm_mirror.proofs.Numbering.{named_is, none_below, started_named, known_of_life, first_known, listed, none_again, one_if}
@@ -14,7 +17,7 @@ use Rattle.dm_mirror.proofs.May.{few_numbers as small}
 -- what machine m knows of a process that the file may name
 abbrev pub first_here : Option Process → Option KernelKnown
 first_here None = None
-first_here (Some x) = Some (Here x)
+first_here (Some x) = Some (Here (Resident.Process x))
 
 abbrev pub first_record : Boot → ℕ → Pid → Option BootProcess → Option KernelKnown → Option KernelKnown
 first_record b m q None before = before
@@ -31,18 +34,17 @@ pub record Opens (b : Boot) (m : ℕ) (ps : List BootProcess) (s t : KernelState
   pub blocks : t.room.blocks ≡ s.room.blocks
   pub taken_slots : t.room.taken_slots ≡ s.room.taken_slots + starting_at m ps
   pub taken_blocks : t.room.taken_blocks ≡ s.room.taken_blocks + blocks_at m b.images ps
-  pub servers : t.servers ≡ s.servers
 
 -- a record that is set
-set_record : (b : Boot) (m : ℕ) (p : BootProcess) (x : Process) (q : Pid) (c d : Bool) (before : Option KernelKnown) → pid_eq p.pid q ≡ c → (p.pid.home == m) ≡ true → first_here (started b p) ≡ Some (Here x)
-    → (if c then Some (Here x) else before) ≡ first_record b m q (if c then Some p else None) before
+set_record : (b : Boot) (m : ℕ) (p : BootProcess) (x : Process) (q : Pid) (c d : Bool) (before : Option KernelKnown) → pid_eq p.pid q ≡ c → (p.pid.home == m) ≡ true → first_here (started b p) ≡ Some (Here (Resident.Process x))
+    → (if c then Some (Here (Resident.Process x)) else before) ≡ first_record b m q (if c then Some p else None) before
 set_record b m p x q c d before is home e = grind (arith, nat_tests, pid_eq-is)
 
 off_record : (b : Boot) (m : ℕ) (p : BootProcess) (q : Pid) (c : Bool) (before : Option KernelKnown) → pid_eq p.pid q ≡ c → (p.pid.home == m) ≡ false → before ≡ first_record b m q (if c then Some p else None) before
 off_record b m p q c before is home = grind (arith, nat_tests, pid_eq-is)
 
 -- one of them
-pub first_started : (b : Boot) (p : BootProcess) (i : BootImage) → slice_get b.images p.image ≡ Some i → first_here (started b p) ≡ Some (Here (child_of b p.pid i p.links))
+pub first_started : (b : Boot) (p : BootProcess) (i : BootImage) → slice_get b.images p.image ≡ Some i → first_here (started b p) ≡ Some (Here (Resident.Process (child_of b p.pid i p.links)))
 first_started b p i there = search
 
 abbrev blocks_if : Bool → ℕ → ℕ
@@ -92,7 +94,6 @@ opens_all b m earlier (p ∷ ps) s h here =
       blocks = rest.blocks ∙ one.blocks;
       taken_slots = omega (arith, slots, slots_);
       taken_blocks = omega (arith, blocks, blocks_);
-      servers = rest.servers ∙ one.servers;
     }
 
 -- The world as the boot file has it stands for the first point.
@@ -101,31 +102,81 @@ opens_all b m earlier (p ∷ ps) s h here =
 abbrev first_said : Boot → Option BootProcess → Known
 first_said b o = known_of_life (bind o (first_life b))
 
-started_is : (o : Option Process) (x : Process) → first_here o ≡ Some (Record.Here x) → o ≡ Some x
+started_is : (o : Option Process) (x : Process) → first_here o ≡ Some (Record.Here (Resident.Process x)) → o ≡ Some x
 started_is o x e = grind (arith, nat_tests)
 
-known_named : (b : Boot) (m : ℕ) (q : Pid) (o : Option BootProcess) → (q.home == m) ≡ true → process_named q b.processes ≡ o → IsValid b → KnownStands (placed_start b) q [] [] (first_said b o) (first_record b m q o None)
-known_named b m q None on e valid = tt
-known_named b m q (Some p) on e valid =
+known_named : (b : Boot) (m : ℕ) (q : Pid) (o : Option BootProcess) → (q.home == m) ≡ true → is_server q ≡ false → process_named q b.processes ≡ o → IsValid b → KnownStands (placed_start b) q [] [] (first_said b o) (first_record b m q o None)
+known_named b m q None on off e valid = tt
+known_named b m q (Some p) on off e valid =
     let n = named_is b [] b.processes q p valid.processes e in
     let x = child_of b p.pid n.image p.links in
-    let here : first_record b m q (Some p) None ≡ Some (Record.Here x) = ap (λ (c : Bool). if c then first_here (started b p) else None) on ∙ first_started b p n.image n.there in
+    let here : first_record b m q (Some p) None ≡ Some (Record.Here (Resident.Process x)) = ap (λ (c : Bool). if c then first_here (started b p) else None) on ∙ first_started b p n.image n.there in
     let said : first_said b (Some p) ≡ Known.Here = ap known_of_life (first_alive b p n.image n.there) in
     let there : (placed_start b).processes q ≡ Some x = started_named b b.processes q ∙ ap (λ (o : Option BootProcess). bind o (started b)) e ∙ started_is (started b p) x (first_started b p n.image n.there) in
     subst (λ k. KnownStands (placed_start b) q [] [] k (first_record b m q (Some p) None)) (sym said)
-    (subst (λ r. KnownStands (placed_start b) q [] [] Known.Here r) (sym here) (([], there), refl))
+    (subst (λ r. KnownStands (placed_start b) q [] [] Known.Here r) (sym here) (([], process_at (placed_start b) q off ∙ ap (option_map Resident.Process) there), refl))
 
 apart_record : (b : Boot) (m : ℕ) (q : Pid) (o : Option BootProcess) → (q.home == m) ≡ false → first_record b m q o None ≡ None
 apart_record b m q o off = grind (arith, nat_tests)
 
+-- a process that the file may name
+abbrev named_known : Boot → Pid → Known
+named_known b q = first_said b (process_named q b.processes)
+
 known_first : (b : Boot) (m : ℕ) (q : Pid) (c : Bool) → (q.home == m) ≡ c → is_server q ≡ false → IsValid b
     → KnownStands (placed_start b) q [] [] ((first_point b).view.known m q) (first_record b m q (process_named q b.processes) None)
-known_first b m q true on server valid = grind (arith, nat_tests, first_known, known_named, b.processes)
-known_first b m q false off server valid = grind (arith, nat_tests, first_known, apart_record, b.processes)
+known_first b m q true on server valid =
+    let known : (first_point b).view.known m q ≡ named_known b q = first_known b m q valid ∙ ap (λ (c : Bool). if c then (if is_server q then Known.Here else named_known b q) else Known.Unknown) on ∙ ap (λ (c : Bool). if c then Known.Here else named_known b q) server in
+    subst (λ k. KnownStands (placed_start b) q [] [] k (first_record b m q (process_named q b.processes) None)) (sym known) (known_named b m q (process_named q b.processes) on server refl valid)
+known_first b m q false off server valid =
+    let known : (first_point b).view.known m q ≡ Known.Unknown = first_known b m q valid ∙ ap (λ (c : Bool). if c then (if is_server q then Known.Here else named_known b q) else Known.Unknown) off in
+    subst (λ k. KnownStands (placed_start b) q [] [] k (first_record b m q (process_named q b.processes) None)) (sym known)
+    (subst (λ r. KnownStands (placed_start b) q [] [] Known.Unknown r) (sym (apart_record b m q (process_named q b.processes) off)) tt)
 
--- servers aren't named
-no_server_named : (b : Boot) (m : ℕ) (q : Pid) → IsValid b → is_server q ≡ true → first_record b m q (process_named q b.processes) None ≡ None
-no_server_named b m q valid server = ap (λ o. first_record b m q o None) (none_below b [] b.processes q valid.processes (let low : q.num < 3 = grind (arith, nat_tests) in omega (arith, low)))
+-- Where the servers begin, all else is as elsewhere.
+
+empty_same : {Y : Type 0} (f : KernelState → Y) (b : Boot) (m : ℕ) → f (with_servers b (bare b m)) ≡ f (bare b m) → f (empty b m) ≡ f (bare b m)
+empty_same f b m e = elim (m == 0) as (λ c. f (if c then with_servers b (bare b m) else bare b m) ≡ f (bare b m)) [ true ↦ e | false ↦ refl ]
+
+-- no process is there
+none_there : (b : Boot) (m : ℕ) (q : Pid) → is_server q ≡ false → (empty b m).records q ≡ None
+none_there b m q off = empty_same (λ s. s.records q) b m
+    (ap (λ (c : Bool). if c then Some (Record.Here (Resident.Manager (starting b))) else (if pid_eq switchboard q then Some (Record.Here (Resident.Board (record { names = []; sent = 0; moves = 0 }))) else None)) (server_apart manager q refl off)
+    ∙ ap (λ (c : Bool). if c then Some (Record.Here (Resident.Board (record { names = []; sent = 0; moves = 0 }))) else None) (server_apart switchboard q refl off))
+
+-- the servers are, on machine 0
+board_first : (b : Boot) (m : ℕ) (c : Bool) → KnownStands (placed_start b) switchboard [] [] (if c then Known.Here else Known.Unknown) ((if c then with_servers b (bare b m) else bare b m).records switchboard)
+board_first b m true = (([], refl), refl)
+board_first b m false = tt
+
+manager_first : (b : Boot) (m : ℕ) (c : Bool) → KnownStands (placed_start b) manager [] [] (if c then Known.Here else Known.Unknown) ((if c then with_servers b (bare b m) else bare b m).records manager)
+manager_first b m true = (([], refl), refl)
+manager_first b m false = tt
+
+first_machine : (m : ℕ) → (0 == m) ≡ (m == 0)
+first_machine m = grind (arith, nat_tests)
+
+-- servers aren't named in the file
+server_first : (b : Boot) (m : ℕ) (q : Pid) → q.home ≡ 0 → q.num < 3 → is_server q ≡ true → IsValid b → (r : Option KernelKnown) → r ≡ first_record b m q (process_named q b.processes) ((empty b m).records q)
+    → KnownStands (placed_start b) q [] [] (if m == 0 then Known.Here else Known.Unknown) ((empty b m).records q) → KnownStands (placed_start b) q [] [] ((first_point b).view.known m q) r
+server_first b m q home low server valid r is h =
+    let record_is : r ≡ (empty b m).records q = is ∙ ap (λ o. first_record b m q o ((empty b m).records q)) (none_below b [] b.processes q valid.processes low) in
+    let known : (first_point b).view.known m q ≡ (if m == 0 then Known.Here else Known.Unknown) =
+    first_known b m q valid ∙ ap (λ (c : Bool). if c then (if is_server q then Known.Here else named_known b q) else Known.Unknown) (ap (λ (n : ℕ). n == m) home ∙ first_machine m)
+    ∙ ap (λ (c : Bool). if m == 0 then (if c then Known.Here else named_known b q) else Known.Unknown) server in
+    subst (λ k. KnownStands (placed_start b) q [] [] k r) (sym known) (subst (KnownStands (placed_start b) q [] [] (if m == 0 then Known.Here else Known.Unknown)) (sym record_is) h)
+
+known_start : (b : Boot) (m : ℕ) (q : Pid) → IsValid b → (r : Option KernelKnown) → r ≡ first_record b m q (process_named q b.processes) ((empty b m).records q) → KnownStands (placed_start b) q [] [] ((first_point b).view.known m q) r
+known_start b m q valid r is = elim (who q) [
+  | OfProcess off ↦
+      subst (KnownStands (placed_start b) q [] [] ((first_point b).view.known m q)) (sym (is ∙ ap (first_record b m q (process_named q b.processes)) (none_there b m q off))) (known_first b m q (q.home == m) refl off valid)
+  | OfBoard at_board ↦
+      subst (λ (p : Pid). (t : Option KernelKnown) → t ≡ first_record b m p (process_named p b.processes) ((empty b m).records p) → KnownStands (placed_start b) p [] [] ((first_point b).view.known m p) t) (sym at_board)
+      (λ t e. server_first b m switchboard refl (omega arith) refl valid t e (board_first b m (m == 0))) r is
+  | OfManager at_manager ↦
+      subst (λ (p : Pid). (t : Option KernelKnown) → t ≡ first_record b m p (process_named p b.processes) ((empty b m).records p) → KnownStands (placed_start b) p [] [] ((first_point b).view.known m p) t) (sym at_manager)
+      (λ t e. server_first b m manager refl (omega arith) refl valid t e (manager_first b m (m == 0))) r is
+]
 
 -- and there are no predecessors
 preds_one : (b : Boot) (p : BootProcess) (s : KernelState) (o : Option BootImage) → (begins_process b s p o).preds ≡ s.preds
@@ -138,21 +189,22 @@ preds_all b (p ∷ ps) s = preds_all b ps (begins_process b s p (slice_get b.ima
 -- the room
 kernel_first : (b : Boot) (m : ℕ) → IsValid b → m < length b.machines → KernelStands b (first_point b) (placed_start b) m (opened b m)
 kernel_first b m valid lt =
-    let o = opens_all b m [] b.processes (empty b m) valid.processes refl in
+    let o = opens_all b m [] b.processes (empty b m) valid.processes (empty_same (λ s. s.here) b m refl) in
     let t = first_taken b m valid lt in
     let slots = o.taken_slots in let slots_ = t.slots in let none : (room_of (slice_get b.machines m)).taken_slots ≡ 0 = grind (arith, nat_tests) in
     let blocks = o.taken_blocks in let blocks_ = t.blocks in let none_ : (room_of (slice_get b.machines m)).taken_blocks ≡ 0 = grind (arith, nat_tests) in
+    let no_slots : (empty b m).room.taken_slots ≡ (room_of (slice_get b.machines m)).taken_slots = empty_same (λ s. s.room.taken_slots) b m refl in
+    let no_blocks : (empty b m).room.taken_blocks ≡ (room_of (slice_get b.machines m)).taken_blocks = empty_same (λ s. s.room.taken_blocks) b m refl in
     let made = o.made in
-    let none_preceded : (opened b m).preds ≡ (empty b m).preds = preds_all b b.processes (empty b m) in
+    let none_made : (empty b m).made ≡ 0 = empty_same (λ s. s.made) b m refl in
+    let none_preceded : (opened b m).preds ≡ (bare b m).preds = preds_all b b.processes (empty b m) ∙ empty_same (λ s. s.preds) b m refl in
     record {
       here = o.here;
-      known = λ q server. subst (KnownStands (placed_start b) q [] [] ((first_point b).view.known m q)) (sym (o.records q)) (known_first b m q (q.home == m) refl server valid);
-      no_server = λ q server. o.records q ∙ no_server_named b m q valid server;
-      ring = o.ring;
-      inbox = sym (ap (map Some) o.inbox);
-      made = omega (arith, made);
-      room = record { slots = o.slots; blocks = o.blocks; taken_slots = omega (arith, slots, slots_, none); taken_blocks = omega (arith, blocks, blocks_, none_) };
-      servers = o.servers;
+      known = λ q. known_start b m q valid ((opened b m).records q) (o.records q);
+      ring = o.ring ∙ ap (λ (ps : List Pid). ps ++ ring_at b.processes m) (empty_same (λ s. s.ring) b m refl);
+      inbox = sym (ap (map Some) (o.inbox ∙ empty_same (λ s. s.inbox) b m refl));
+      made = omega (arith, made, none_made);
+      room = record { slots = o.slots ∙ empty_same (λ s. s.room.slots) b m refl; blocks = o.blocks ∙ empty_same (λ s. s.room.blocks) b m refl; taken_slots = omega (arith, slots, slots_, none, no_slots); taken_blocks = omega (arith, blocks, blocks_, none_, no_blocks) };
       preds = record { same = λ q. ap (λ (f : Pid → ℕ → Bool). f q) none_preceded; within = λ q j far. ap (λ (f : Pid → ℕ → Bool). f q j) none_preceded };
     }
 
@@ -209,5 +261,5 @@ start_stands b valid = (
       tokens = λ p i t z told between about stands. cc;
     },
   ),
-  λ m lt. sent_all b b.processes (empty b m),
+  λ m lt. sent_all b b.processes (empty b m) ∙ empty_same (λ s. s.sent) b m refl,
 )

@@ -180,6 +180,9 @@ module _ (b : Boot) (pt : Point) (l : Placed) (v : View) where
       child = h.places.child;
       answer = h.places.answer;
       asker = h.places.asker;
+      board = h.places.board;
+      board_moves = h.places.board_moves;
+      manager_moves = h.places.manager_moves;
     };
   }
 

@@ -4,7 +4,10 @@ use Rattle.dm_mirror.proofs.Names.{Point, Known, Unknown, Here, is_fixed, OwnTol
 use Rattle.dm_mirror.proofs.Names.{plain_what, with_what, is_between, tells_onward, Of, own_sort, about_of, told_of, ◌==◌, manager, pid_eq, switchboard, sort_of, Inbox, MessageKind, incoming_of, kernel_handles, left_true, is_due_piece}
 use Rattle.dm_mirror.proofs.Names.{is_piece, hears_piece, brings_piece, is_stale, pulled, is_process}
 use Rattle.dm_mirror.proofs.Follow.Fronts.{fronted, Fronts}
-use Rattle.dm_mirror.proofs.Leave.Fronts.{heard, Hearing, stands_first, three_off}
+use Rattle.dm_mirror.proofs.Leave.Fronts.{heard, Hearing, stands_first}
+use Rattle.dm_mirror.proofs.Gone.{has_some}
+use Rattle.dm_mirror.proofs.Residents.{made_apart, not_board, not_manager}
+use Rattle.dm_mirror.proofs.Names.{is_server, plainly as plainly_with}
 use Rattle.dm_mirror.proofs.Turning.{TurnsAt}
 use Rattle.dm_mirror.proofs.Handle.Ended.{is_here}
 use Rattle.dm_mirror.proofs.Handle.Taking.{IsProcess, Taking, took}
@@ -107,6 +110,12 @@ pub record About (b : Boot) (m : ℕ) (pt : Point) (l : Placed) (records : AllRe
   pub around : Around b pt l
   pub whole : FreezesWhole k k.inbox
 
+-- only a process is asked to move
+move_loose : (b : Boot) (m : ℕ) (pt : Point) (l : Placed) (k : KernelState) (y : Message) (machine : ℕ) → Taking b m pt l k y (PlainWhat.Move machine) → is_server y.to.pid ≡ false
+move_loose b m pt l k y machine c =
+    let fits = c.run.based.fits.messages y.id (plainly_with y (PlainWhat.Move machine)) c.front.there in
+    made_apart b pt y.to.pid c.run (has_some 0 (pt.kernel.processes y.to.pid) fits.0)
+
 module _ (b : Boot) (m : ℕ) (pt : Point) (l : Placed) (records : AllRecords) (k : KernelState) (h : About b m pt l records k) where
   -- a message of the bag that is for a kernel, a server, or a process that is here or has ended
   bag_turn : (i : MsgId) (is : List MsgId) (x : PlainMessage) → pt.view.inbox m ≡ i ∷ is → pt.kernel.bag i ≡ Some x → BagFor m pt x.to x.what → TurnsAt b m pt l records k
@@ -120,8 +129,8 @@ module _ (b : Boot) (m : ℕ) (pt : Point) (l : Placed) (records : AllRecords) (
       let z = t.message in
       let taking : Taking b m pt l k z (PlainWhat.Move machine) = subst (Taking b m pt l k z) is t.taking in
       let who : z.to.pid ≡ y.to.pid = (parts z x t.plain).to ∙ sym to in
-      let (number, board, other) = three_off (z.to.pid.num == 0) (pid_eq z.to.pid switchboard) (pid_eq z.to.pid manager) (ap is_fixed who ∙ fixed) in
-      let process : IsProcess z.to.pid = record { number = number; no_board = board; no_manager = other } in
+      let off : is_server z.to.pid ≡ false = move_loose b m pt l k z machine taking in
+      let process : IsProcess z.to.pid = record { number = ap is_fixed who ∙ fixed; no_board = not_board z.to.pid off; no_manager = not_manager z.to.pid off } in
       asked_turn b m pt l records k z machine taking (is_here b m pt l k z (PlainWhat.Move machine) taking process (ap (pt.view.known m) who ∙ knows)) h.tokens h.mine h.counted (subst (FreezesWhole k) taking.inbox h.whole)
   here_turn y c x w is there to fixed knows =
       bag_turn y.id c.ids x c.box there (ForHere (ap (pt.view.known m) (sym to) ∙ knows) (λ machine e. let f : w ≡ PlainWhat.Move machine = sym is ∙ e in cc))

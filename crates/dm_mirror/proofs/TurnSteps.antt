@@ -3,10 +3,13 @@ use Rattle.dm_mirror.proofs.Names.{◌≡◌, ℕ, ◌+◌, ◌<◌, ◌≤◌, 
 use Rattle.dm_mirror.proofs.Names.{Stage, Out, Spelled, spelled, Point, after_line, moved, group_of, outcome, at_machine, standing, About, Pair, begins, worn_in, PairsFit, AllSayable, Sane, outcome_sayable, sane_line, machine_of, Run}
 use Rattle.dm_mirror.proofs.Names.{Placed, Mirrors, lines_keep, IsLawfulPart, IsLawfulTurned, NodeState, Acts, Goes, Worn, acts, Spoken, spoken, WorldState, acted, world_step, GoesOn, StopsWorn, Steps, CountsStand, History, StandsWith, Pid}
 use Rattle.dm_mirror.proofs.Names.{IsMachine, IsValid, NothingElse, Target, goes_on, RunGoes, OwnTold, asks_move, MayTurn, turn, asked_lawful, turn_lawful, Part, called_off_lawful, calls_off, Happened, over_in, with_over, Acted}
-use Rattle.dm_mirror.proofs.Names.{KernelState, Why, before_turn}
+use Rattle.dm_mirror.proofs.Names.{KernelState, Why, before_turn, Bool, false, if◌then◌else◌, None, spelled, Happened}
+use Rattle.dm_rule.specs.View.{actor, has_seat}
+use Rattle.dm_rule.specs.Migrating.{migrates_to}
+use Rattle.dm_rule.specs.Addresses.{known_place}
 use Rattle.std.proofs.lemmas.List.{append_assoc}
 use Rattle.dm_rule.proofs.Groups.{fits}
-use Rattle.dm_world.specs.World.{turned}
+use Rattle.dm_world.specs.World.{asks_at, seat_of, turned}
 use Rattle.dm_onekernel.specs.Step as kernel
 use Rattle.dm_mirror.proofs.Over.{acts_over, kept_over, still_over}
 use Rattle.dm_rule.specs.Parts as rule
@@ -215,15 +218,50 @@ turn_goes goes b w pt l h m valid run own may stands sent below t =
     (turn_lawful b (w.nodes m).kernel (record { state = t.state; parts = map Part.Says t.says ++ map part_of t.routes ++ late_parts t.late }) valid.images may (stands.nodes m below).lawful t.turn)
     group due (goes b pt (Step.Turn m) group valid below due run own)
 
--- the manager, on machine 0, is told to move a process
-pub move_goes : RunGoes → (b : Boot) (w : WorldState) (pt : Point) (l : Placed) (h : History) (p : Pid) (to : ℕ) → IsValid b → Run b pt → OwnTold pt → (w.nodes 0).kernel.here < 16 → IsMachine to → StandsWith b w pt l h → CountsStand w pt → 0 < pt.kernel.machines
-    → to < pt.kernel.machines → Turns b 0 (Step.Migrate p to) (asks_move (w.nodes 0).kernel p to) pt (moved pt (Line.Head (Step.Migrate p to)) pt.kernel) l (λ n. (w.nodes n).kernel.records) (w.nodes 0).kernel → Steps b w pt (Step.Migrate p to)
-move_goes goes b w pt l h p to valid run own here machine stands sent below within t =
-    let (group, due) = goes_on b pt (Step.Migrate p to) valid run own within in
-    turn_steps b w pt l h 0 (Step.Migrate p to) (asks_move (w.nodes 0).kernel p to) (Target to) (record { head = refl; kept = λ c. w.ended; happens = refl }) run stands sent below (w.nodes 0).kernel (sent 0 below) t
-    (λ c is. still_over w.ended (Step.Migrate p to) pt.kernel t.next.kernel (w.nodes 0).kernel.over t.state.over (λ n e. cc) stands.ended t.over)
-    (asked_lawful (w.nodes 0).kernel p to (record { state = t.state; parts = map Part.Says t.says ++ map part_of t.routes ++ late_parts t.late }) here machine (stands.nodes 0 below).lawful t.turn)
-    group due (goes b pt (Step.Migrate p to) group valid within due run own)
+-- the manager, on its seat m, tells a process or a server to move
+pub move_goes : RunGoes → (b : Boot) (w : WorldState) (pt : Point) (l : Placed) (h : History) (p : Pid) (to m : ℕ) → IsValid b → Run b pt → OwnTold pt → seat_of (length b.machines) w.nodes ≡ Some m → actor pt.view (Step.Migrate p to) ≡ m → (w.nodes m).kernel.here < 16 → IsMachine to
+    → StandsWith b w pt l h → CountsStand w pt → m < pt.kernel.machines → to < pt.kernel.machines
+    → Turns b m (Step.Migrate p to) (asks_move (w.nodes m).kernel p to) pt (moved pt (Line.Head (Step.Migrate p to)) pt.kernel) l (λ n. (w.nodes n).kernel.records) (w.nodes m).kernel → Steps b w pt (Step.Migrate p to)
+move_goes goes b w pt l h p to m valid run own seat acts here machine stands sent below within asked =
+    let d = Step.Migrate p to in
+    let (group, due) = goes_on b pt d valid run own within in
+    let start : ℕ → Point = λ n. record pt { view = begins pt.view n (Target to) } in
+    let t = subst (λ (q : Point). Turns b m d (asks_move (w.nodes m).kernel p to) pt q l (λ n. (w.nodes n).kernel.records) (w.nodes m).kernel) (ap start acts) asked in
+    turn_steps b w pt l h m d (asks_move (w.nodes m).kernel p to) (Target to) (record { head = ap (λ (n : ℕ). Some (start n)) acts; kept = λ c. w.ended; happens = ap (asks_at w d p to) seat }) run stands sent below (w.nodes m).kernel (sent m below) t
+    (λ c is. still_over w.ended d pt.kernel t.next.kernel (w.nodes m).kernel.over t.state.over (λ n e. cc) stands.ended t.over)
+    (asked_lawful (w.nodes m).kernel p to (record { state = t.state; parts = map Part.Says t.says ++ map part_of t.routes ++ late_parts t.late }) here machine (stands.nodes m below).lawful t.turn)
+    group due (goes b pt d group valid within due run own)
+
+-- while the manager is on its way, none is told
+abbrev away_point : Point → Pid → ℕ → Point
+away_point pt p to = moved (moved pt (Line.Head (Step.Migrate p to)) pt.kernel) Line.Away pt.kernel
+
+pub away_goes : (b : Boot) (w : WorldState) (pt : Point) (l : Placed) (h : History) (p : Pid) (to : ℕ) → seat_of (length b.machines) w.nodes ≡ None → has_seat pt.view ≡ false → StandsWith b w pt l h → CountsStand w pt
+    → Steps b w pt (Step.Migrate p to)
+away_goes b w pt l h p to seat away stands sent =
+    let d = Step.Migrate p to in
+    let at : ℕ = actor pt.view d in
+    let next : Point = away_point pt p to in
+    let group : Spelled = record { lines = Line.Head d ∷ Line.Away ∷ []; point = next } in
+    let quiet : outcome b pt d ≡ Some (rule.Says Line.Away ∷ []) = ap (λ (c : Bool). Some (if c then migrates_to p (known_place pt.kernel pt.view pt.view.seat pt.addresses p) else rule.Says Line.Away ∷ [])) away in
+    let due : group_of b pt d ≡ Some group =
+    ap (λ (o : Option (List rule.Part)). bind o (λ (ps : List rule.Part). bind (after_line pt (Line.Head d)) (λ (q : Point). bind (spelled q ps) (λ (s : Spelled). Some (rule.behind (Line.Head d ∷ []) s))))) quiet in
+    let begun : WorldState = record w { groups = w.groups + 1 } in
+    let happens : world_step b w d ≡ Some (Happened.Says (record { state = begun; lines = Line.Head d ∷ Line.Away ∷ [] })) = ap (asks_at w d p to) seat in
+    inl (record {
+      said = record { state = begun; lines = Line.Head d ∷ Line.Away ∷ [] };
+      happens = happens;
+      group = group;
+      due = due;
+      lines = refl;
+      stands = (
+        (l, h, away_stands (stands_begins b w pt l h at (Target to) stands)),
+        λ n few. sent n few,
+      );
+    })
+  where
+    away_stands : StandsWith b (record w { groups = w.groups + 1 }) (record pt { view = begins pt.view (actor pt.view (Step.Migrate p to)) (Target to) }) l h → StandsWith b (record w { groups = w.groups + 1 }) (away_point pt p to) l h
+    away_stands s = s
 
 -- a machine calls off what comes to it
 pub call_goes : RunGoes → (b : Boot) (w : WorldState) (pt : Point) (l : Placed) (h : History) (p : Pid) (m : ℕ) → IsValid b → Run b pt → OwnTold pt → (w.nodes m).kernel.here < 16 → StandsWith b w pt l h → CountsStand w pt → m < pt.kernel.machines

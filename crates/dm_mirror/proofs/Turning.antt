@@ -2,8 +2,9 @@
 use Rattle.dm_mirror.proofs.Names.{◌≡◌, ◌≢◌, ℕ, ◌+◌, ◌≤◌, Bool, true, false, not, ◌==◌, ◌&&◌, List, [], ◌∷◌, ◌++◌, length, map, is_some, ⊤, Option, None, Some, Pid, place_of, kernel_at, Message, MsgId, MessageKind, Stage, kind_of}
 use Rattle.dm_mirror.proofs.Names.{plain_message, Cargo, cargo_at, incoming_of, Boot, manager, Step, Line, Receiver, Sender, given, own_given, is_between, Point, after, moved, outcome, at_machine, Spot, Queue, Held, Inbox, Untaken}
 use Rattle.dm_mirror.proofs.Names.{standing, Known, Here, Frozen, Incoming, Of, Told, own_id, id_of, pid_of, ap, arith, Placed, Mirrors, enclosed, KernelState, Turned, AllOwnStand, about_of, told_of, KernelStands, AllRecords, Carries}
-use Rattle.dm_mirror.proofs.Names.{TokensStand, destination_of, Part, sort_of, ◌⊎◌, View, LeftCarries, is_due_piece, OneKernel, Why, pid_eq, if◌then◌else◌, turns, ◌∙◌, sym, subst, inl, inr, cases_Bool, pid_eq-is, why_ended}
+use Rattle.dm_mirror.proofs.Names.{TokensStand, destination_of, Part, sort_of, ◌⊎◌, View, LeftCarries, is_due_piece, OneKernel, Why, pid_eq, if◌then◌else◌, turns, ◌∙◌, sym, subst, inl, inr, cases_Bool, pid_eq-is, why_ended, resident_at}
 use Rattle.dm_onekernel.specs.Kernel as kernels
+use Rattle.dm_mirror.proofs.Residents.{SameSystem}
 use Rattle.dm_rule.specs.Parts as rule
 
 -- behind the head of a turn
@@ -17,7 +18,7 @@ is_elsewhere m (Held n p) = not (n == m)
 is_elsewhere m (Inbox n) = not (n == m)
 is_elsewhere m (Untaken a c) = true
 
--- a machine has a process, holds it back or expects it
+-- a machine has a process or a server, holds it back or expects it
 abbrev pub has_process : Known → Bool
 has_process Here = true
 has_process (Frozen to) = true
@@ -40,15 +41,14 @@ pub record Elsewhere (m : ℕ) (pt : Point) (l : Placed) (next : Point) (placed 
   pub machines : next.kernel.machines ≡ pt.kernel.machines
   pub made : (n : ℕ) → n ≢ m → next.kernel.made n ≡ pt.kernel.made n
   -- what another machine has, holds back or expects stays, and so does who waits to hear of it
-  pub process : (n : ℕ) (p : Pid) → n ≢ m → has_process (pt.view.known n p) ≡ true → placed.processes p ≡ l.processes p
+  pub resident : (n : ℕ) (p : Pid) → n ≢ m → has_process (pt.view.known n p) ≡ true → resident_at placed p ≡ resident_at l p
   pub notes : (n : ℕ) (p : Pid) → n ≢ m → has_process (pt.view.known n p) ≡ true → placed.notes p ≡ l.notes p
   -- the blocks of what another machine knows stay
   pub life : (n : ℕ) (p : Pid) → n ≢ m → has_process (pt.view.known n p) ≡ true → next.kernel.processes p ≡ pt.kernel.processes p
   -- a message that stands elsewhere stays
   pub bag : (i : MsgId) (s : Spot) → is_elsewhere m s ≡ true → 1 ≤ standing pt.view i s → placed.bag i ≡ l.bag i
-  -- the servers are on machine 0
-  pub board : m ≢ 0 → placed.board ≡ l.board
-  pub manager : m ≢ 0 → placed.manager ≡ l.manager
+  -- as many machines and images are known of
+  pub system : SameSystem l placed
 
 -- a message that is routed: one of the bag for the first time, one that goes on, or the next of the machine's kernel
 pub data Route : Type 0 where
@@ -269,7 +269,7 @@ pub record Row (b : Boot) (m : ℕ) (pt : Point) (l : Placed) (k : KernelState) 
   pub over : EndsSo (Step.Turn m) pt.kernel next.kernel k.over state.over
   -- it counts the kernel's own messages, and what leaves or comes here stays
   pub count : AreCounted k.sent state.sent route
-  pub moving : (p : Pid) → is_moving (pt.view.known m p) ≡ true → (placed.processes p ≡ l.processes p) × (state.records p ≡ k.records p) × (placed.notes p ≡ l.notes p)
+  pub moving : (p : Pid) → is_moving (pt.view.known m p) ≡ true → (resident_at placed p ≡ resident_at l p) × (state.records p ≡ k.records p) × (placed.notes p ≡ l.notes p)
   -- the kernels' own messages stay
   pub own : (i : MsgId) (x : Message) → plain_message x ≡ None → l.bag i ≡ Some x → placed.bag i ≡ Some x
   pub own_back : (i : MsgId) (x : Message) → plain_message x ≡ None → placed.bag i ≡ Some x → l.bag i ≡ Some x

@@ -67,7 +67,7 @@ MailIsSaid =
 abbrev pub EndIsSaid : Type 0
 EndIsSaid =
     (b : Boot) (es : List Step) (w : WorldState) (pt : Point) → IsValid b → Leads b (first_point b) es pt → Stands b w pt
-    → world_ends.end_lines (length b.machines) w ≡ rule_ends.end_lines pt
+    → world_ends.end_lines b w ≡ rule_ends.end_lines pt
 
 -- and that can be said
 abbrev pub EndMay : Type 0

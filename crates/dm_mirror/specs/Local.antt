@@ -1,8 +1,10 @@
--- A directive acts on one machine: it reads that machine alone, and at a delivery the packet that comes; it changes that machine
+-- A directive acts on one machine: it reads that machine alone, for a request to move also which machine has the manager, and at a
+-- delivery the packet that comes; it changes that machine
 -- alone; what it puts on wires goes from that machine; and so its lines are that machine's alone.
 use Rattle.std.specs.Prelude.{◌≡◌, ◌≢◌, ℕ, ◌+◌, false, List, [], ◌∷◌, ◌++◌, length, map}
 use Rattle.std.specs.List.{All}
 use Rattle.std.specs.declared.option.Option.TheVariants.{None, Some}
+use Rattle.dm_link.specs.declared.Pid.{Pid}
 use Rattle.dm_wire.specs.Sent.{Sent, bytes_at}
 use Rattle.dm_wire.specs.Wire.{after_mark}
 use Rattle.dm_onekernel.specs.declared.boot.Boot.{Boot}
@@ -10,9 +12,9 @@ use Rattle.dm_schedule.specs.declared.Step.{Step}
 use Rattle.dm_schedule.specs.declared.Step.TheVariants as step
 use Rattle.dm_line.specs.declared.line.Line.{Line}
 use Rattle.dm_line.specs.declared.line.Line.TheVariants as line
-use Rattle.dm_rule.specs.View.{actor}
 use Rattle.dm_node.specs.State.{here}
-use Rattle.dm_world.specs.World.{WorldState, Said, Says, world_step}
+use Rattle.dm_world.specs.Local.{acts_on}
+use Rattle.dm_world.specs.World.{WorldState, Said, Says, seat_of, world_step}
 
 -- a packet that was never delivered
 abbrev pub IsFresh : Sent → Type 0
@@ -38,7 +40,7 @@ marked_by (step.CallOff p m) w = w
 -- and but for the mark of a delivery nothing changes on wires
 abbrev pub ActsLocally : Type 0
 ActsLocally =
-    (b : Boot) (w : WorldState) (e : Step) (s : Said) → here (w.nodes (actor e)) ≡ actor e → world_step b w e ≡ Some (Says s) → (more : ℕ → List Sent) × PutsFrom (actor e) more (marked_by e w) s.state
+    (b : Boot) (w : WorldState) (e : Step) (s : Said) → here (w.nodes (acts_on b w e)) ≡ acts_on b w e → world_step b w e ≡ Some (Says s) → (more : ℕ → List Sent) × PutsFrom (acts_on b w e) more (marked_by e w) s.state
 
 -- the packet that comes, where one comes, is the same
 abbrev pub SamePacket : Step → WorldState → WorldState → Type 0
@@ -77,7 +79,7 @@ unnumbered (line.Stale id) = line.Stale id
 unnumbered (line.Proto id) = line.Proto id
 unnumbered (line.NoChild q) = line.NoChild q
 unnumbered (line.NoCall q) = line.NoCall q
-unnumbered (line.Pinned q) = line.Pinned q
+unnumbered line.Away = line.Away
 
 -- machine m has put as many packets on each of its wires
 abbrev pub AsLong : ℕ → WorldState → WorldState → Type 0
@@ -88,20 +90,27 @@ AsLong m w u = (c : ℕ) → length (u.wires m c) ≡ length (w.wires m c)
 pub record DoesSame (b : Boot) (w u : WorldState) (e : Step) (s : Said) : Type 0 where
   pub said : Said
   pub happens : world_step b u e ≡ Some (Says said)
-  pub node : said.state.nodes (actor e) ≡ s.state.nodes (actor e)
+  pub node : said.state.nodes (acts_on b w e) ≡ s.state.nodes (acts_on b w e)
   pub more : ℕ → List Sent
-  pub puts : PutsFrom (actor e) more (marked_by e w) s.state
-  pub puts_there : PutsFrom (actor e) more (marked_by e u) said.state
+  pub puts : PutsFrom (acts_on b w e) more (marked_by e w) s.state
+  pub puts_there : PutsFrom (acts_on b w e) more (marked_by e u) said.state
   pub lines : map unnumbered said.lines ≡ map unnumbered s.lines
-  pub exact : AsLong (actor e) w u → said.lines ≡ s.lines
+  pub exact : AsLong (acts_on b w e) w u → said.lines ≡ s.lines
 
--- whatever the other machines are, and whatever else lies on wires
+-- whatever the other machines are, and whatever else lies on wires; but it is the same machine that acts, which for a request to move is
+-- that where the manager is
 abbrev pub ReadsLocally : Type 0
 ReadsLocally =
-    (b : Boot) (w u : WorldState) (e : Step) (s : Said) → here (w.nodes (actor e)) ≡ actor e → u.nodes (actor e) ≡ w.nodes (actor e) → SamePacket e w u → world_step b w e ≡ Some (Says s) → DoesSame b w u e s
+    (b : Boot) (w u : WorldState) (e : Step) (s : Said) → here (w.nodes (acts_on b w e)) ≡ acts_on b w e → acts_on b u e ≡ acts_on b w e → u.nodes (acts_on b w e) ≡ w.nodes (acts_on b w e) → SamePacket e w u → world_step b w e ≡ Some (Says s) → DoesSame b w u e s
 
 -- where no such packet is to be delivered, nothing changes
 abbrev pub NothingComes : Type 0
 NothingComes =
     (b : Boot) (w : WorldState) (a c k : ℕ) → bytes_at (w.wires a c) k ≡ None
     → world_step b w (step.Deliver a c k) ≡ Some (Says (record { state = record w { groups = w.groups + 1 }; lines = line.Head (step.Deliver a c k) ∷ line.Nothing ∷ [] }))
+
+-- while the manager is on its way nothing is told to move, and nothing changes
+abbrev pub AwayDoesNothing : Type 0
+AwayDoesNothing =
+    (b : Boot) (w : WorldState) (p : Pid) (m : ℕ) → seat_of (length b.machines) w.nodes ≡ None
+    → world_step b w (step.Migrate p m) ≡ Some (Says (record { state = record w { groups = w.groups + 1 }; lines = line.Head (step.Migrate p m) ∷ line.Away ∷ [] }))

@@ -16,14 +16,15 @@ use Rattle.dm_stream.specs.Stream.{Stream}
 use Rattle.dm_stream.specs.Order as order
 use Rattle.dm_packet.specs.Packets.{spelling}
 use Rattle.dm_wire.specs.Sent as wire
-use Rattle.dm_process.specs.declared.process.Process.{Process}
 use Rattle.dm_migrate.specs.Cargo.{Cargo, cargo_of}
 use Rattle.dm_migrate.specs.Departure.{CanMove, Departure}
+use Rattle.dm_resident.specs.declared.Resident.{Resident}
+use Rattle.dm_resident.specs.declared.Resident.TheVariants as resident
+use Rattle.dm_resident.specs.Residents.{queue_of, with_queue}
 use Rattle.dm_migrate.specs.Arrival.{Arrival}
-use Rattle.dm_migrate.specs.Way.{coming}
+use Rattle.dm_migrate.specs.Way.{IsOfSystem, coming}
 use Rattle.dm_onekernel.specs.declared.boot.Boot.{Boot}
 use Rattle.dm_onekernel.specs.Step as kernel
-use Rattle.dm_kernel.specs.declared.kernel.Servers.{Servers}
 use Rattle.dm_kernel.specs.State as machine
 use Rattle.dm_kernel.specs.State.{KernelState}
 use Rattle.dm_kernel.specs.Begun.{room_of}
@@ -36,43 +37,42 @@ use Rattle.dm_line.specs.declared.line.Load.TheVariants as load
 use Rattle.dm_rule.specs.View.{SentLoad, Known, Unknown, Here, Frozen, Incoming, Forward}
 use Rattle.dm_rule.specs.Point.{Point}
 use Rattle.dm_rule.specs.Rule.{Room, taken_at, has}
-use Rattle.dm_rulelaws.specs.Fits.{is_server}
 use Rattle.dm_places.specs.Placed.{Placed, Mirrors}
 use Rattle.dm_world.specs.World.{WorldState}
 use Rattle.dm_mirror.specs.Own.{AllOwnStand}
-use Rattle.dm_mirror.specs.Tokens.{TokensStand, cargo_at}
+use Rattle.dm_mirror.specs.Tokens.{TokensStand, cargo_at, resident_at}
 
 -- these are the messages with these names
 abbrev pub AreMessages : (MsgId → Option Message) → List MsgId → List Message → Type 0
 AreMessages bag ids ms = map bag ids ≡ map Some ms
 
--- a process is the one of the kernel with places, but for its queue, which holds the messages that the lines say
-abbrev pub HereStands : Placed → Pid → List MsgId → Process → Type 0
-HereStands l p queue x = ((q : List Message) × (l.processes p ≡ Some (record x { queue = q }))) × AreMessages l.bag queue x.queue
+-- what is here is what the kernel with places has, but for its queue, which holds the messages that the lines say
+abbrev pub HereStands : Placed → Pid → List MsgId → Resident → Type 0
+HereStands l p queue r = ((q : List Message) × (resident_at l p ≡ Some (with_queue q r))) × AreMessages l.bag queue (queue_of r)
 
--- a process that leaves for a machine is held back there, and can be carried whole
+-- what leaves for a machine is held back there, and can be carried whole
 pub record LeavesStand (l : Placed) (p : Pid) (queue held_ : List MsgId) (at : ℕ) (d : Departure) : Type 0 where
   pub to : d.to ≡ at
   -- what moves, and so who waits to hear of it
-  pub cargo : cargo_at l p ≡ Some (cargo_of d.process d.asker)
-  pub here : HereStands l p queue d.process
+  pub cargo : cargo_at l p ≡ Some (cargo_of d.resident d.asker)
+  pub here : HereStands l p queue d.resident
   pub held : AreMessages l.bag held_ d.held
-  pub whole : CanMove d.process
+  pub whole : CanMove d.resident
 
--- a process can be carried whole, whatever waits for it, to a machine whose tables have so many slots
-abbrev pub CanBeCarried : ℕ → Process → Type 0
-CanBeCarried cap x = CanMove (record x { queue = [] }) × (cap ≡ length x.table)
+-- it can be carried whole, whatever waits for it, to a machine of a system with tables of so many slots, so many machines and images
+abbrev pub CanBeCarried : ℕ → ℕ → ℕ → Resident → Type 0
+CanBeCarried cap machines images r = CanMove (with_queue [] r) × IsOfSystem cap machines images r
 
 -- of what comes there are the pieces up to the one that is asked for
 pub record ComesStand (l : Placed) (p : Pid) (from : ℕ) (held_ : List MsgId) (a : Arrival) : Type 0 where
   pub source : a.source ≡ from
   pub cargo : Cargo
   pub there : cargo_at l p ≡ Some cargo
-  pub whole : IsSuch (CanBeCarried a.cap) (l.processes p)
+  pub whole : IsSuch (CanBeCarried a.cap l.manager.machines l.manager.images) (resident_at l p)
   pub pieces : a ≡ coming cargo a.source a.cap a.held a.wanted
   pub held : AreMessages l.bag held_ a.held
 
--- what a machine knows of a process is what the lines say
+-- what a machine knows of a process or a server is what the lines say
 abbrev pub KnownStands : Placed → Pid → List MsgId → List MsgId → Known → Option machine.KernelKnown → Type 0
 KnownStands l p queue held Unknown None = ⊤
 KnownStands l p queue held Here (Some (record_.Here x)) = HereStands l p queue x
@@ -88,9 +88,6 @@ pub record RoomStands (t given : Taken) (r : Room) : Type 0 where
   pub taken_slots : t.taken_slots ≡ r.slots
   pub taken_blocks : t.taken_blocks ≡ r.blocks
 
-abbrev pub servers_at : Placed → ℕ → Option Servers
-servers_at l m = if m == 0 then Some (record { board = l.board; manager = l.manager }) else None
-
 -- the predecessors of each process are those of the lines, and machines that there are
 pub record PredsStand (b : Boot) (said kept : Pid → ℕ → Bool) : Type 0 where
   pub same : (p : Pid) → kept p ≡ said p
@@ -99,15 +96,12 @@ pub record PredsStand (b : Boot) (said kept : Pid → ℕ → Bool) : Type 0 whe
 -- the kernel of machine m
 pub record KernelStands (b : Boot) (pt : Point) (l : Placed) (m : ℕ) (k : KernelState) : Type 0 where
   pub here : k.here ≡ m
-  -- the servers have no records
-  pub known : (p : Pid) → is_server p ≡ false → KnownStands l p (pt.view.queue m p) (pt.view.held m p) (pt.view.known m p) (k.records p)
-  pub no_server : (p : Pid) → is_server p ≡ true → k.records p ≡ None
+  pub known : (p : Pid) → KnownStands l p (pt.view.queue m p) (pt.view.held m p) (pt.view.known m p) (k.records p)
   pub preds : PredsStand b (pt.view.preds m) k.preds
   pub ring : k.ring ≡ pt.view.ring m
   pub inbox : AreMessages l.bag (pt.view.inbox m) k.inbox
   pub made : k.made ≡ pt.kernel.made m
   pub room : RoomStands k.room (room_of (slice_get b.machines m)) (taken_at pt m pt.kernel.machines)
-  pub servers : k.servers ≡ servers_at l m
 
 -- machine m, but for its streams
 pub record NodeStands (b : Boot) (pt : Point) (l : Placed) (m : ℕ) (n : NodeState) : Type 0 where

@@ -9,12 +9,15 @@ use Rattle.dm_message.specs.declared.Message.{Message}
 use Rattle.dm_message.specs.declared.MsgId.{MsgId}
 use Rattle.dm_message.specs.declared.What.{What}
 use Rattle.dm_message.specs.declared.What.TheVariants as what
-use Rattle.dm_process.specs.declared.process.Process.{Process}
 use Rattle.dm_records.specs.Records.{incoming_of}
 use Rattle.dm_migrate.specs.declared.arriving.Wanted.{Wanted}
 use Rattle.dm_migrate.specs.declared.arriving.Wanted.TheVariants.{Chunk, Block, Nothing}
 use Rattle.dm_migrate.specs.Arrival.{Arrival}
 use Rattle.dm_migrate.specs.Cargo.{Cargo, ask_for, cargo_of}
+use Rattle.dm_resident.specs.declared.Resident.{Resident}
+use Rattle.dm_resident.specs.declared.Resident.TheVariants as resident
+use Rattle.dm_link.specs.Names.{pid_eq}
+use Rattle.dm_onekernel.specs.Boot.{switchboard, manager}
 use Rattle.dm_migrate.specs.Pieces.{HasBlock, HasChunk, block_of, chunk_of}
 use Rattle.dm_kernel.specs.May.{IsSuch}
 use Rattle.dm_kernel.specs.State as machine
@@ -53,9 +56,13 @@ Carries p c n a w = ⊥
 abbrev pub destination_of : MsgId → Told → ℕ
 destination_of i t = if tells_onward (sort_of t.kind) then t.receiver.home else i.from.home
 
--- what moves where a process does, as the kernel with places has it
+-- what is where a process or a server is, as the kernel with places has it
+abbrev pub resident_at : Placed → Pid → Option Resident
+resident_at l p = if pid_eq p switchboard then Some (resident.Board l.board) else if pid_eq p manager then Some (resident.Manager l.manager) else option_map resident.Process (l.processes p)
+
+-- what moves where it does
 abbrev pub cargo_at : Placed → Pid → Option Cargo
-cargo_at l p = option_map (λ (x : Process). cargo_of x (l.notes p)) (l.processes p)
+cargo_at l p = option_map (λ (r : Resident). cargo_of r (l.notes p)) (resident_at l p)
 
 -- what each machine knows of each process
 abbrev pub AllRecords : Type 0

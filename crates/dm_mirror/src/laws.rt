@@ -1,5 +1,5 @@
 //! What holds of every run of the machines and their wires, whoever runs them.
-ghost use Rattle.dm_mirror.specs.Local.{ActsLocally, ReadsLocally, NothingComes};
+ghost use Rattle.dm_mirror.specs.Local.{ActsLocally, AwayDoesNothing, ReadsLocally, NothingComes};
 ghost use Rattle.dm_mirror.specs.Ran.{RanBegins, RanGoesOn, RunIsRan};
 ghost use Rattle.dm_mirror.specs.Laws.{StartStands, StepsStand, NextIsSaid, QuietIsSaid, RestIsSaid, MailIsSaid, EndIsSaid, EndMay, RunBegins, RunGoesOn, GoodLeads, PlacesFollow};
 
@@ -94,9 +94,15 @@ pub fn acts_locally()
 {}
 
 /// What a machine does depends on that machine alone, and on the packet that is delivered to it: in another world where both are
-/// the same, it comes to the same and sends the same.
+/// the same, it comes to the same and sends the same. A request to move is for the machine where the manager is: that has to be the
+/// same machine in both.
 pub fn reads_locally()
     ensures { ReadsLocally }
+{}
+
+/// While the manager is on its way, nothing is told to move, and nothing changes.
+pub fn away_does_nothing()
+    ensures { AwayDoesNothing }
 {}
 
 /// Where there is no such packet to deliver, nothing changes.

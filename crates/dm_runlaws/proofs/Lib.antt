@@ -11,3 +11,4 @@ pub mod Worked
 pub mod Packets
 pub mod SettleFew
 pub mod Leading
+pub mod Away

@@ -11,7 +11,7 @@ pub use Rattle.dm_linkupdate.proofs.Names.{None}
 pub use Rattle.dm_procman.proofs.Names.{Boot, IsValid}
 pub use Rattle.dm_laws.proofs.Names.{false≢true, option_map, replay, ⊤}
 pub use Rattle.dm_datamove.proofs.Names.{All-nil}
-pub use Rattle.dm_rule.proofs.Names.{AreStill, Directive, IsStep, IsStill, Leads, Line, Load, Next, Pair, Part, Point, Says, SentLoad, Spelled, Step, Todo, Transmits, View, actor, after, after_head, after_line, after_packet, after_put}
+pub use Rattle.dm_rule.proofs.Names.{AreStill, Directive, IsStep, IsStill, Leads, Line, Load, Next, Pair, Part, Point, Says, SentLoad, Spelled, Step, Todo, Transmits, View, after, after_head, after_line, after_packet, after_put}
 pub use Rattle.dm_rule.proofs.Names.{all_of, at_least, at_pair, bind-is, filter, first_point, gone_after, group_of, has_mail, is_quiet, marked, marked_at, moved, next_step, oldest, pair_window, routed_on, spelled, view_after, with_pair}
 pub use Rattle.dm_rule.specs.Worn.{IsWorn}
 pub use Rattle.dm_places.proofs.Names.{Placed}
@@ -20,7 +20,6 @@ pub use Rattle.dm_rulelaws.proofs.Decided.{shorter_begins}
 pub use Rattle.dm_rulelaws.proofs.Names.{IsNetLine, IsRun, LeadsBy, group_is, is_put, labels}
 pub use Rattle.dm_rulelaws.proofs.RunsAlways.{goes_on_always, receives_in_order}
 pub use Rattle.dm_movelaws.proofs.Names.{act_of, count, group_replay, labels-append, line_view, onward, or, pair_same, replay-append, run_always, said, taken_pair}
-pub use Rattle.dm_movelaws.proofs.Real.Always.{head_less}
 pub use Rattle.dm_settlelaws.proofs.Falls.LeftFalls.{left_falls}
 pub use Rattle.dm_settlelaws.proofs.Falls.Less.{Falls, by_left}
 pub use Rattle.dm_settlelaws.proofs.FewSteps.FewPuts.{few_puts}

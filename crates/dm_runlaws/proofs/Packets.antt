@@ -1,24 +1,25 @@
 -- All packets of a number spell the message that was routed under it.
 use Rattle.dm_runlaws.proofs.Names.{◌≡◌, ◌≢◌, ℕ, zero, suc, ◌+◌, ◌-◌, ◌<◌, ◌≤◌, ◌==◌, ◌&&◌, Bool, true, false, not, filter, List, [], ◌∷◌, ◌++◌, map, drop, refl, ap, ◌∙◌, sym, subst, inl, inr, arith, if◌then◌else◌, slice_get, option_map}
 use Rattle.dm_runlaws.proofs.Names.{Option, None, Some, cases_Bool, nat_tests, Message, MsgId, spelling, bytes_at, is_pair, load_at, Boot, Step, Line, bind-is, IsStep, Point, after, after_line, View, Pair, SentLoad, view_after, routed_on}
-use Rattle.dm_runlaws.proofs.Names.{marked, marked_at, gone_after, at_least, actor, pair_same, line_view, Placed, group_after, packet_of_load, WorldState, PutsFrom, marked_by, GoesOn, AreMessages, History, PairStands, Stands, StandsWith}
-use Rattle.dm_runlaws.proofs.Names.{bytes_of, line_of, load_of, message_id, acts_locally, machines_group, plainly_is, kernel_stays, HasNumber, number_in, number_of, GoesTo, Spells, PacketsSpell, PacketsAgree, head_less, bytes_marked}
+use Rattle.dm_runlaws.proofs.Names.{marked, marked_at, gone_after, at_least, pair_same, line_view, Placed, group_after, packet_of_load, WorldState, PutsFrom, marked_by, GoesOn, AreMessages, History, PairStands, Stands, StandsWith}
+use Rattle.dm_runlaws.proofs.Names.{bytes_of, line_of, load_of, message_id, acts_locally, machines_group, plainly_is, kernel_stays, HasNumber, number_in, number_of, GoesTo, Spells, PacketsSpell, PacketsAgree, bytes_marked, length}
+use Rattle.std.specs.Option.{unwrap_or}
+use Rattle.dm_node.specs.State.{NodeState}
+use Rattle.dm_world.specs.Local.{acts_on}
+use Rattle.dm_world.specs.World.{seat_of}
+use Rattle.dm_mirror.proofs.Machines.{machines_are}
+use Rattle.dm_mirror.proofs.Seats.{seat_has}
 use Rattle.dm_packet.specs.declared.Packet.TheVariants as packet
 use Rattle.dm_wire.specs.Sent as wire
 use Rattle.dm_stream.specs.Packets as stream
 use Rattle.dm_runlaws.proofs.Wires.{set_keeps, taken_keeps}
+use Rattle.dm_stream.proofs.Lists.{get-drop}
 
 -- what stands at a place of a list that was made from another, or of its end
 at_map : {A B : Type 0} (f : A → B) (xs : List A) (k : ℕ) → slice_get (map f xs) k ≡ option_map f (slice_get xs k)
 at_map f [] k = refl
 at_map f (x ∷ xs) zero = refl
 at_map f (x ∷ xs) (suc k) = at_map f xs k
-
-at_drop : {A : Type 0} (t : ℕ) (xs : List A) (n j : ℕ) → j ≡ t + n → slice_get (drop t xs) n ≡ slice_get xs j
-at_drop zero xs n j e = let f : n ≡ j = omega (arith, e) in ap (slice_get xs) f
-at_drop (suc t) [] n j e = refl
-at_drop (suc t) (x ∷ xs) n zero e = absurd (omega (arith, e))
-at_drop (suc t) (x ∷ xs) n (suc j) e = at_drop t xs n j (omega (arith, e))
 
 -- a packet that was printed as one of number n carries a message under it
 record Carries (ps : List (stream.Packet Message)) (k n : ℕ) : Type 0 where
@@ -62,8 +63,8 @@ routed_there : (bag : MsgId → Option Message) (ids : List MsgId) (ms : List Me
 routed_there bag ids ms t n m names are le there =
     let name : slice_get ids n ≡ Some m.id = ap (λ (xs : List MsgId). slice_get xs n) (sym names) ∙ at_map message_id ms n ∙ ap (option_map message_id) there in
     let place : n ≡ t + (n - t) = omega (arith, le) in
-    let id_at : slice_get (map bag (drop t ids)) (n - t) ≡ Some (bag m.id) = at_map bag (drop t ids) (n - t) ∙ ap (option_map bag) (at_drop t ids (n - t) n place ∙ name) in
-    let message_at : slice_get (map Some (drop t ms)) (n - t) ≡ Some (Some m) = at_map Some (drop t ms) (n - t) ∙ ap (option_map Some) (at_drop t ms (n - t) n place ∙ there) in
+    let id_at : slice_get (map bag (drop t ids)) (n - t) ≡ Some (bag m.id) = at_map bag (drop t ids) (n - t) ∙ ap (option_map bag) (get-drop t ids (n - t) n place ∙ name) in
+    let message_at : slice_get (map Some (drop t ms)) (n - t) ≡ Some (Some m) = at_map Some (drop t ms) (n - t) ∙ ap (option_map Some) (get-drop t ms (n - t) n place ∙ there) in
     let same : Some (bag m.id) ≡ Some (Some m) = sym id_at ∙ ap (λ (xs : List (Option Message)). slice_get xs (n - t)) are ∙ message_at in
     (name, cc)
 
@@ -160,11 +161,24 @@ bytes_put m more w u a c k x false is h e =
     let apart : a ≢ m = grind (arith, nat_tests) in
     ap (λ (ps : List wire.Sent). bytes_at ps k) (h.others a c apart) ∙ e
 
-bytes_on : (b : Boot) (w : WorldState) (pt : Point) (e : Step) (g : GoesOn b w pt e) (a c k : ℕ) (x : List ℕ) → Stands b w pt → IsStep pt.kernel.machines e → bytes_at (w.wires a c) k ≡ Some x → bytes_at (g.said.state.wires a c) k ≡ Some x
-bytes_on b w pt e g a c k x ((l, h, s), counts) fit is =
-    let here = (s.nodes (actor e) (head_less pt.kernel.machines e fit)).kernel.here in
+-- the machine that a directive lets act is one that there is
+seat_less : (k n : ℕ) (nodes : ℕ → NodeState) (o : Option ℕ) → seat_of k nodes ≡ o → k ≡ n → 0 < n → unwrap_or o 0 < n
+seat_less k n nodes None e is least = least
+seat_less k n nodes (Some s) e is least = let within = (seat_has k s nodes e).0 in omega (arith, within, is)
+
+acts_less : (b : Boot) (w : WorldState) (n : ℕ) (e : Step) → length b.machines ≡ n → IsStep n e → acts_on b w e < n
+acts_less b w n (Step.Turn m) is fit = fit
+acts_less b w n (Step.Tick m) is fit = fit
+acts_less b w n (Step.Deliver a c k) is fit = fit.1
+acts_less b w n (Step.Migrate p m) is fit = seat_less (length b.machines) n w.nodes (seat_of (length b.machines) w.nodes) refl is (omega (arith, fit))
+acts_less b w n (Step.CallOff p m) is fit = fit
+
+bytes_on : (b : Boot) (w : WorldState) (pt : Point) (e : Step) (g : GoesOn b w pt e) (a c k : ℕ) (x : List ℕ) → Stands b w pt → length b.machines ≡ pt.kernel.machines → IsStep pt.kernel.machines e → bytes_at (w.wires a c) k ≡ Some x → bytes_at (g.said.state.wires a c) k ≡ Some x
+bytes_on b w pt e g a c k x ((l, h, s), counts) many fit is =
+    let m = acts_on b w e in
+    let here = (s.nodes m (acts_less b w pt.kernel.machines e many fit)).kernel.here in
     let (more, puts) = acts_locally kernel_stays b w e g.said here g.happens in
-    bytes_put (actor e) more (marked_by e w) g.said.state a c k x (actor e == a) refl puts (bytes_headed e w a c k ∙ is)
+    bytes_put m more (marked_by e w) g.said.state a c k x (m == a) refl puts (bytes_headed e w a c k ∙ is)
 
 -- a run of the world
 record Reached (b : Boot) (u : WorldState) (pt q : Point) (a c k n : ℕ) (x : List ℕ) : Type 0 where
@@ -173,25 +187,26 @@ record Reached (b : Boot) (u : WorldState) (pt q : Point) (a c k n : ℕ) (x : L
   number : HasNumber q a c k n
   bytes : bytes_at (u.wires a c) k ≡ Some x
 
-reached : (b : Boot) (es : List Step) (w u : WorldState) (pt q : Point) (a c k n : ℕ) (x : List ℕ) → Stands b w pt → GoesTo b w pt es u q → HasNumber pt a c k n → bytes_at (w.wires a c) k ≡ Some x → Reached b u pt q a c k n x
-reached b [] w u pt q a c k n x s (e, f) number bytes = record {
+reached : (b : Boot) (es : List Step) (w u : WorldState) (pt q : Point) (a c k n : ℕ) (x : List ℕ) → Stands b w pt → length b.machines ≡ pt.kernel.machines → GoesTo b w pt es u q → HasNumber pt a c k n → bytes_at (w.wires a c) k ≡ Some x → Reached b u pt q a c k n x
+reached b [] w u pt q a c k n x s many (e, f) number bytes = record {
   stands = subst (λ (v : WorldState). Stands b v q) e (subst (Stands b w) f s);
   machines = ap (λ (p : Point). p.kernel.machines) (sym f);
   number = subst (λ (p : Point). HasNumber p a c k n) f number;
   bytes = subst (λ (v : WorldState). bytes_at (v.wires a c) k ≡ Some x) e bytes;
 }
-reached b (e ∷ es) w u pt q a c k n x s (g, fit, rest) number bytes =
+reached b (e ∷ es) w u pt q a c k n x s many (g, fit, rest) number bytes =
     let next = lines_have g.group.lines pt g.group.point a c k n (group_after b pt e g.group g.due) number in
-    let r = reached b es g.said.state u g.group.point q a c k n x g.stands rest next (bytes_on b w pt e g a c k x s fit bytes) in
-    record { stands = r.stands; machines = r.machines ∙ machines_group b pt e g.group g.due; number = r.number; bytes = r.bytes }
+    let same = machines_group b pt e g.group g.due in
+    let r = reached b es g.said.state u g.group.point q a c k n x g.stands (many ∙ sym same) rest next (bytes_on b w pt e g a c k x s many fit bytes) in
+    record { stands = r.stands; machines = r.machines ∙ same; number = r.number; bytes = r.bytes }
 
 -- there is a packet where there is a number
-agrees_on : (b : Boot) (more : List Step) (w u : WorldState) (pt q : Point) (a c j k n : ℕ) → Stands b w pt → GoesTo b w pt more u q → a < pt.kernel.machines → c < pt.kernel.machines → a ≢ c → HasNumber pt a c j n → HasNumber q a c k n
+agrees_on : (b : Boot) (more : List Step) (w u : WorldState) (pt q : Point) (a c j k n : ℕ) → Stands b w pt → length b.machines ≡ pt.kernel.machines → GoesTo b w pt more u q → a < pt.kernel.machines → c < pt.kernel.machines → a ≢ c → HasNumber pt a c j n → HasNumber q a c k n
     → bytes_at (u.wires a c) k ≡ bytes_at (w.wires a c) j
-agrees_on b more w u pt q a c j k n ((l, h, s), counts) goes a_in c_in apart first last =
+agrees_on b more w u pt q a c j k n ((l, h, s), counts) many goes a_in c_in apart first last =
     let x = of_pair b pt l w h a c j n (s.pairs a c a_in c_in apart) first in
     let bytes = spelling (packet.Data a c n x.message) in
-    let r = reached b more w u pt q a c j n bytes ((l, h, s), counts) goes first x.bytes in
+    let r = reached b more w u pt q a c j n bytes ((l, h, s), counts) many goes first x.bytes in
     later r x.bytes r.stands
   where
     later : {y : List ℕ} → Reached b u pt q a c j n y → bytes_at (w.wires a c) j ≡ Some y → Stands b u q → bytes_at (u.wires a c) k ≡ bytes_at (w.wires a c) j
@@ -200,9 +215,9 @@ agrees_on b more w u pt q a c j k n ((l, h, s), counts) goes a_in c_in apart fir
         agree_pair b q l2 u h2 a c j k n (s2.pairs a c (omega (arith, same, a_in)) (omega (arith, same, c_in)) apart) r.number last ∙ r.bytes ∙ sym is
 
 pub packets_agree : PacketsAgree
-packets_agree b es more w u pt q a c j k n valid leads stands goes a_in c_in apart first last = agrees_on b more w u pt q a c j k n stands goes a_in c_in apart first last
+packets_agree b es more w u pt q a c j k n valid leads stands goes a_in c_in apart first last = agrees_on b more w u pt q a c j k n stands (sym (machines_are b es pt leads)) goes a_in c_in apart first last
 
 pub packets_spell : PacketsSpell
 packets_spell b es more w u pt q a c j k n valid leads ((l, h, s), counts) goes a_in c_in apart untaken first last =
-    let same = agrees_on b more w u pt q a c j k n ((l, h, s), counts) goes a_in c_in apart first last in
+    let same = agrees_on b more w u pt q a c j k n ((l, h, s), counts) (sym (machines_are b es pt leads)) goes a_in c_in apart first last in
     subst (Spells pt a c n) (sym same) (spells_pair b pt l w h a c j n s (s.pairs a c a_in c_in apart) untaken first)

@@ -5,6 +5,7 @@ use Rattle.dm_runlaws.proofs.Names.{Leads, Spelled, Point, first_point, has_mail
 use Rattle.dm_runlaws.proofs.Names.{IsSettleStep, SettlesBy, says_put, or_is, pass_stays, settles_is, unless_is, few_puts, settles_always, SettleFew, SettlesFromStart, puts_in, settle_begun}
 use Rattle.dm_line.specs.Todo.{Seen, at_rest, following}
 use Rattle.dm_rule.specs.Good.{seen_at}
+use Rattle.dm_settlelaws.proofs.RestHas.{none_if}
 
 -- a group takes a directive, or stays in a pass
 begun_same : (machines : ℕ) (seen : Seen) (p : Pass) (ds : List Directive) (n : Next) → begin_pass machines seen p ds ≡ Some n → n.left.directives ≡ ds
@@ -109,11 +110,6 @@ settling b (g ∷ gs) es pt end t left valid way todo settle (n, w, due, group, 
           let next : Leads b (first_point b) (es ++ n.step ∷ []) w.point = leads_append b es (n.step ∷ []) (first_point b) pt w.point way (w, fit, group, refl) in
           more_stepped b pt end g gs n.step w fit is group said (settling b gs (es ++ n.step ∷ []) w.point end n.left left valid next fits.left still more (omega (arith, long, long_)))
     ]
-
--- also where it begins
-none_if : (over : Bool) → ◌≡◌ {A = Option Next} (if over then None else None) None
-none_if true = refl
-none_if false = refl
 
 begun_is : (pt : Point) (ds : List Directive) → next_step pt.kernel.machines pt (all_of (Directive.Settle ∷ ds)) ≡ next_step pt.kernel.machines pt (settle_begun ds)
 begun_is pt ds =

@@ -4,6 +4,7 @@ use Rattle.dm_runlaws.proofs.Names.{Todo, next_pass, or, IsKept, next_step, unde
 use Rattle.dm_runlaws.proofs.Names.{IsLess, Left, left, IsSettleStep, left_falls, Falls, by_left, settles_always}
 use Rattle.dm_rule.specs.Good.{seen_at}
 use Rattle.dm_runlaws.proofs.Runs.{From, Stood, between, follows, goes, same, same_by}
+pub use Rattle.dm_settlelaws.proofs.RestHas.{none_if}
 
 -- a settle, wherever it stands, with these directives behind it
 record IsSettle (b : Boot) (ds : List Directive) (t : Todo) : Type 0 where
@@ -48,11 +49,6 @@ settle_on b ds valid rest x smaller pt t s is e =
           smaller (left b.numbers w.point.kernel.machines w.point.view) (subst (IsLess (left b.numbers w.point.kernel.machines w.point.view)) e (group_less b pt g.next w valid s next fits.step g.step group)) w.point g.next.left next
           (record { fits = fits.left; pass = g.pass; behind = g.behind ∙ is.behind }) refl)
     ]
-
--- also where it begins
-pub none_if : (over : Bool) → ◌≡◌ {A = Option Next} (if over then None else None) None
-none_if true = refl
-none_if false = refl
 
 pub settle_out : (b : Boot) (ds : List Directive) → IsValid b → All (IsDirective (length b.machines)) ds → Rest b ds → (pt : Point) → Stood b pt → From b pt (between 0 (Directive.Settle ∷ ds))
 settle_out b ds valid fit rest pt s =

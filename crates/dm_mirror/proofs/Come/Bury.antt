@@ -8,6 +8,7 @@ use Rattle.dm_kernel.specs.State as machine
 use Rattle.dm_kernel.specs.Burying as machine_burying
 use Rattle.dm_mirror.proofs.Turning.{NoneEnds, Nothing, Own, Route, TurnsAt, begun, is_moving, part_of, rule_part_of}
 use Rattle.dm_mirror.proofs.Preds.{forgotten_stand}
+use Rattle.dm_mirror.proofs.Residents.{same_system}
 use Rattle.dm_mirror.proofs.Buries.{absent_from, bury_messages, buries_may, machine_buries, many_buries, preds_are, rule_buries, untold_from}
 use Rattle.dm_mirror.proofs.Rooms.{taken_same}
 use Rattle.dm_mirror.proofs.Follow.Fronts.{append_none, front_gone}
@@ -58,7 +59,6 @@ hears_bury b m pt l records k y p valid h =
     let mine : KnownStands l p (next.view.queue m p) (next.view.held m p) (next.view.known m p) (state.records p) =
     subst (KnownStands l p (v.queue m p) (v.held m p) (next.view.known m p)) (sym gone_record) (subst (λ (n : Known). KnownStands l p (v.queue m p) (v.held m p) n None) (sym gone_known) tt) in
     let sets : (q : Pid) → pid_eq p q ≡ false → state.records q ≡ k.records q = λ q off. ap (λ (c : Bool). if c then None else k.records q) off in
-    let keeps : is_server p ≡ true → state.records p ≡ k.records p = λ is. gone_record ∙ sym (h.stands.no_server p is) in
     let taken = taken_same pt next m refl (λ n. refl) (λ q. taken_at_record pt next m p q Unknown refl refl (away_room (v.known m p) (away m))) in
     let turn_parts : machine_burying.buries s p tos ≡ map part_of routes ++ [] = machine_buries s p tos ∙ tells_parts tells ∙ sym (append_none (map part_of routes)) in
     let rule_parts : map (to_kernel MessageKind.Bury) tos ≡ map rule_part_of routes ++ [] = rule_buries s p tos ∙ tells_rule_parts tells ∙ sym (append_none (map rule_part_of routes)) in
@@ -69,7 +69,7 @@ hears_bury b m pt l records k y p valid h =
     let same = standing_begun pt m j spot in
     omega (arith, few, same, least)) in
     let leaves : LeavesMoving pt l records next l after_records = record {
-      process = λ n q is. refl;
+      resident = λ n q is. refl;
       notes = λ n q is. refl;
       records_ = λ n q is. elim (cases_Bool (pid_eq p q)) [
         | inr off ↦ sym (records_as records m n k.records state.records q h.records_here (sets q off))
@@ -97,10 +97,10 @@ hears_bury b m pt l records k y p valid h =
       after = ap (λ (o : Option Told). Some (record { kernel = pt.kernel; view = view.about (view.buried_for (handled (begun pt m).view i) o) (view.buried_for (handled (begun pt m).view i) o).topic; addresses = pt.addresses })) h.told;
       placed = l;
       mirrors = mirrors_view pt.kernel v next.view pt.addresses l refl h.mirrors;
-      kernel = stands_set b pt next l l m k state p (search (sets, record_others, mine, keeps)) h.stands h.stands.ring (ap (map l.bag) box ∙ h.others) h.stands.made
-          (room_stays k.room _ _ _ taken h.stands.room) h.stands.servers (forgotten_stand b v.preds k.preds m p h.stands.preds);
+      kernel = stands_set b pt next l l m k state p (search (sets, record_others, same_system l, mine)) h.stands h.stands.ring (ap (map l.bag) box ∙ h.others) h.stands.made
+          (room_stays k.room _ _ _ taken h.stands.room) (forgotten_stand b v.preds k.preds m p h.stands.preds);
       sent = λ e. (let many = many_buries s p tos in let own = tells_owns tells in omega (arith, e, many, own));
-      elsewhere = search (machine_off, record_off);
+      elsewhere = search (machine_off, record_off, same_system l);
       may = buries_may next l after_records m (v.count m) 0 p s tos
           (record {
             acting = refl;

@@ -2,15 +2,19 @@
 use Rattle.dm_mirror.proofs.Names.{◌≡◌, ℕ, ◌+◌, ◌≤◌, Bool, true, false, List, ◌∷◌, refl, ap, ◌∙◌, sym, subst, inl, inr, is_some, arith, if◌then◌else◌, option_map, Option, None, Some, false≢true, nat_tests, Pid, pid_of, kernel_at, Message}
 use Rattle.dm_mirror.proofs.Names.{MsgId, MessageKind, kind_of, PlainMessage, plain_message, Process, incoming_of, Boot, bind, plain_process, id_eq-same, is_between, tells_onward, Moves, IsIn, receiver_in, sender_in, Point, Spot, Inbox}
 use Rattle.dm_mirror.proofs.Names.{StandsOnce, StandsOutside, standing, times, Of, Told, is_kernels, stands_right, not_kernels, token_at, is_server, Run, Placed, Mirrors, KernelState, MadeStands, AllOwnStand, OwnStands, about_of, told_of}
-use Rattle.dm_mirror.proofs.Names.{AreMessages, KernelStands, AllRecords, Carries, TokensStand, destination_of, inbox_is, ◌*◌, ◌/◌, ◌==◌, not, [], length, map, nat_lt, nat_le, flat_map, length-append, flat_map-cons, Link, plain_link, Shell}
-use Rattle.dm_mirror.proofs.Names.{registers, shell_of, spell_slot, numbers_size, Chunk, Block, Nothing, after_block, after_chunk, is_last, state_of, HasPiece, plain_status, chunks_of, links_size, pieces_of, status_size, IsAsked}
-use Rattle.dm_mirror.proofs.Names.{shell_spelling, sort_of, option_map_or, ◌<◌, Cargo, cargo_at, cargo_of, ◌&&◌, eq_self, is_due_piece, brings_piece, is_calloff, is_stale, is_waited_from, destination_expects}
+use Rattle.dm_mirror.proofs.Names.{AreMessages, KernelStands, AllRecords, Carries, TokensStand, destination_of, inbox_is, ◌*◌, ◌/◌, ◌==◌, not, [], length, map, nat_lt, nat_le}
+use Rattle.dm_mirror.proofs.Names.{Chunk, Block, Nothing, after_block, after_chunk, is_last, state_of, HasPiece, chunks_of, pieces_of, IsAsked, Resident, resident_at}
+use Rattle.dm_mirror.proofs.Names.{sort_of, ◌<◌, Cargo, cargo_at, cargo_of, ◌&&◌, eq_self, is_due_piece, brings_piece, is_calloff, is_stale, is_waited_from, destination_expects}
 use Rattle.dm_rule.proofs.QuietTests.{eq_is}
 use Rattle.dm_onekernel.specs.Step as kernel
-use Rattle.dm_mirror.proofs.Leave.Goes.{life_some as alive_made}
 use Rattle.dm_mirror.proofs.Handle.Taking.{some_same}
 use Rattle.dm_mirror.proofs.Cargoes.{IsCargoOf, is_cargo_of}
 use Rattle.dm_mirror.proofs.LeftOver.{brings_on, due_of, onward_on, piece_late}
+use Rattle.dm_rule.specs.Migrating.{size_of}
+use Rattle.dm_resident.specs.Lawful.{IsLawfulResident}
+use Rattle.dm_resident.specs.Residents as residents
+use Rattle.dm_mirror.proofs.Residents.{resident_is}
+use Rattle.dm_mirror.proofs.Sized.{size_at, size_blocks, size_state, sized}
 
 -- machine m, with kernel k, has at its inbox's front message y, which the machine that process p leaves sends
 pub record Comes (b : Boot) (m : ℕ) (pt : Point) (l : Placed) (records : AllRecords) (k : KernelState) (y : Message) (p : Pid) : Type 0 where
@@ -54,13 +58,11 @@ pub record Arrives (b : Boot) (m : ℕ) (pt : Point) (l : Placed) (k : KernelSta
   pub there : cargo_at l p ≡ Some cargo
   pub carries : Carries p cargo (pt.view.asked p) (incoming_of (k.records p)) y.what
   pub named : cargo.pid ≡ p
-  -- the process that it is of
-  pub process : Process
-  pub is_process : l.processes p ≡ Some process
-  pub is_cargo : cargo_of process (l.notes p) ≡ cargo
-  pub alive : kernel.alive (pt.kernel.processes p) ≡ Some (plain_process process)
-  pub is_made : is_some (pt.kernel.processes p) ≡ true
-  pub server : is_server p ≡ false
+  -- what it is of
+  pub resident : Resident
+  pub is_resident : resident_at l p ≡ Some resident
+  pub is_cargo : cargo_of resident (l.notes p) ≡ cargo
+  pub is_sized : size_of pt.kernel p ≡ Some (size_at resident)
 
 -- messages by name
 pub times_self : (i : MsgId) (is : List MsgId) → times i (i ∷ is) ≡ 1 + times i is
@@ -137,9 +139,7 @@ arrives b m pt l records k y p c =
     let fresh : is_stale pt m y.id (kind_of y.what) p ≡ false = fresh_by pt m y p t.source (brings_piece (sort_of (kind_of y.what))) t.phase t.from on refl in
     let same : token.message ≡ y = some_same token.message y (sym token.is ∙ c.there) in
     let records_is : records (destination_of y.id (told_of y)) p ≡ k.records p = ap (λ (n : ℕ). records n p) (destination_is m y c.of_source t.to) ∙ (λ i. c.mine i p) in
-    let of : IsCargoOf (l.processes p) (l.notes p) token.cargo = is_cargo_of (l.processes p) (l.notes p) token.cargo token.there in
-    let alive : kernel.alive (pt.kernel.processes p) ≡ Some (plain_process of.process) = c.mirrors.plain.processes p ∙ ap (option_map plain_process) of.there in
-    let is_made = alive_made (pt.kernel.processes p) (plain_process of.process) alive in
+    let of : IsCargoOf (resident_at l p) (l.notes p) token.cargo = is_cargo_of (resident_at l p) (l.notes p) token.cargo token.there in
     search (
       on,
       fresh,
@@ -147,33 +147,19 @@ arrives b m pt l records k y p c =
       sym (ap (λ (x : Message). x.sender) same) ∙ token.sender,
       subst (λ (x : Message). Carries p token.cargo (pt.view.asked p) (incoming_of (k.records p)) x.what) same
           (subst (λ o. Carries p token.cargo (pt.view.asked p) (incoming_of o) token.message.what) records_is token.carries),
-      ap (λ (z : Cargo). z.pid) (sym of.is) ∙ (c.mirrors.places.process p of.process of.there).pid,
-      (let e_ : is_server p ≡ false = grind (arith, nat_tests, c.run.based.phased.sane.sound.made) in e_),
+      ap (λ (z : Cargo). z.pid) (sym of.is) ∙ (resident_is pt.kernel pt.view pt.addresses l p of.resident c.mirrors of.there).name,
+      sized pt.kernel l p of.resident c.mirrors.plain of.there,
     )
 
--- How many pieces a process that moves has, by its bytes and by the rule, and which of them is asked for next.
+-- How many pieces what moves has, by its bytes and by the rule, and which of them is asked for next.
 
-slots_length : (xs : List (Option Link)) → length (flat_map spell_slot xs) ≡ links_size (map (option_map plain_link) xs)
-slots_length [] = omega arith
-slots_length (x ∷ xs) =
-    let slot_length : length (spell_slot x) ≡ option_map_or (λ _. 24) (option_map plain_link x) 0 = grind (arith, nat_tests) in
-    omega (arith, (ap length (flat_map-cons spell_slot x xs) ∙ length-append (spell_slot x) (flat_map spell_slot xs)), slot_length, slots_length xs)
+pub chunks_same : (r : Resident) → IsLawfulResident r → (length (state_of r) + 511) / 512 ≡ chunks_of (size_at r)
+chunks_same r h = ap (λ (n : ℕ). (n + 511) / 512) (sym (size_state r h))
 
-registers_length : (xs : List ℕ) → length xs ≡ 16 → length (registers.spell xs) ≡ 64
-unfolding registers
-registers_length xs e = omega (arith, e, numbers_size xs)
+pub pieces_same : (r : Resident) → IsLawfulResident r → (length (state_of r) + 511) / 512 + residents.blocks_of r ≡ pieces_of (size_at r)
+pieces_same r h = λ i. chunks_same r h i + sym (size_blocks r) i
 
-shell_length : (s : Shell) → length s.regs.r ≡ 16 → length (shell_spelling s) ≡ 102 + status_size (plain_status s.status) + links_size (map (option_map plain_link) s.table)
-unfolding shell_spelling
-shell_length s sixteen = grind (arith, nat_tests, flat_map, length-append, registers_length, slots_length)
-
-pub chunks_same : (x : Process) → length x.regs.r ≡ 16 → (length (state_of x) + 511) / 512 ≡ chunks_of (plain_process x)
-chunks_same x sixteen = ap (λ (n : ℕ). (n + 511) / 512) (shell_length (shell_of x) sixteen)
-
-pub pieces_same : (x : Process) → length x.regs.r ≡ 16 → (length (state_of x) + 511) / 512 + length x.memory / 256 ≡ pieces_of (plain_process x)
-pieces_same x sixteen = ap (λ (n : ℕ). n + length x.memory / 256) (chunks_same x sixteen)
-
-least_of : (a c : ℕ) → nat_le a c ≡ true → a ≤ c
+pub least_of : (a c : ℕ) → nat_le a c ≡ true → a ≤ c
 least_of a c e = grind (arith, nat_tests)
 
 -- a chunk is the last where as many were asked for as there are
@@ -182,10 +168,14 @@ chunk_last c n k chunks e asked =
     ap (λ (d : ℕ). n == d) (sym e) ∙ (let e_ : (n == (length c.state + 511) / 512) ≡ (is_last c.state k) = grind (arith, nat_tests, least_of, eq_is, asked.0, asked.1) in e_)
 
 -- what is asked for then
-pub chunk_next : (last : Bool) (c : Cargo) (n k : ℕ) → nat_le (length c.state) (512 * (k + 1)) ≡ last → IsAsked c n (Chunk k) → HasPiece c (after_chunk k last) → IsAsked c (n + 1) (after_chunk k last)
-chunk_next true c n k e asked there =
+behind_last : (none : Bool) (c : Cargo) (n k : ℕ) → nat_le (length c.state) (512 * (k + 1)) ≡ true → IsAsked c n (Chunk k) → HasPiece c (if none then Nothing else Block 0) → IsAsked c (n + 1) (if none then Nothing else Block 0)
+behind_last true c n k e asked there = tt
+behind_last false c n k e asked there =
     let f : (length c.state + 511) / 512 ≡ k + 1 = (let g = least_of (length c.state) (512 * (k + 1)) e in let h = asked.1 in omega (arith, g, h)) in
     (omega (arith, f, asked.0), there)
+
+pub chunk_next : (last : Bool) (c : Cargo) (n k : ℕ) → nat_le (length c.state) (512 * (k + 1)) ≡ last → IsAsked c n (Chunk k) → HasPiece c (after_chunk k last (length c.memory / 256)) → IsAsked c (n + 1) (after_chunk k last (length c.memory / 256))
+chunk_next true c n k e asked there = behind_last (length c.memory / 256 == 0) c n k e asked there
 chunk_next false c n k e asked there = (omega (arith, asked.0), there)
 
 -- a piece behind all the chunks is the last where as many were asked for as there are

@@ -1,11 +1,10 @@
--- A process that has come goes on: it is here, at the ring's back, and what was held for it comes before the inbox.
+-- What has come goes on: it is here, a process at the ring's back, and what was held for it comes before the inbox.
 use Rattle.dm_mirror.proofs.Names.{takes_room, ◌≡◌, ◌≢◌, ℕ, ◌+◌, ◌/◌, ◌≤◌, ◌==◌, Bool, true, false, List, [], ◌∷◌, ◌++◌, length, map, refl, ap, ◌∙◌, sym, subst, inl, inr, arith, if◌then◌else◌, Option, Some, cases_Bool, nat_tests}
 use Rattle.dm_mirror.proofs.Names.{false≢true, Pid, pid_eq, Message, MsgId, What, Record, Line, Stage, MessageKind, kind_of, incoming_of, with_record, Nothing, Boot, bind, plain_process, pid_eq-is, pid_eq-same, told_step, Moves, is_early}
-use Rattle.dm_mirror.proofs.Names.{knows, Point, moved, fits, free_room, at_machine, Spot, Held, Inbox, standing, times, Known, Here, Of, View, once_at, times-append, is_server, has_no_queue, Placed, restarted_mirrors, mirrors_view}
+use Rattle.dm_mirror.proofs.Names.{knows, Point, moved, fits, free_room, at_machine, Spot, Held, Inbox, standing, times, Known, Here, Of, View, once_at, times-append, is_server, has_no_queue, Placed, process_restarted, mirrors_view}
 use Rattle.dm_mirror.proofs.Names.{restarts, restarts_as, kernel_handles, KernelState, AreMessages, KnownStands, AllRecords, Carries, least_of, at_record_at, Outcome, Arrival, tells_asker, Told, is_between, sort_of, drop, Cargo, LeftStands}
 use Rattle.dm_mirror.proofs.Names.{is_due_piece, pulls_piece}
 use Rattle.dm_rule.proofs.Names.{Part}
-use Rattle.dm_places.specs.PlacedStep.{with_process}
 use Rattle.dm_mirror.proofs.Leave.Answered.{EndsMove, ends_move_row}
 use Rattle.dm_mirror.proofs.Come.Frames.{Arrives, Comes, arrives, own_once}
 use Rattle.dm_mirror.proofs.Come.Turns.{come_view, eq_off, fewer, gone, machine_self}
@@ -16,12 +15,17 @@ use Rattle.dm_mirror.proofs.Come.Pieces.{first_gone, known_incoming, outcome_ker
 use Rattle.dm_mirror.proofs.Handle.Taking.{machine_off, record_off as record_away, record_others, stands_set}
 use Rattle.dm_mirror.proofs.Leave.Asks.{room_stays, taken_at_record}
 use Rattle.dm_mirror.proofs.Leave.Fronts.{records_as, tokens_one}
-use Rattle.dm_migrate.specs.Way as way
+use Rattle.dm_resident.specs.Residents as residents
+use Rattle.dm_kernel.specs.Departing as departing_
+use Rattle.dm_rule.specs.View as view
+use Rattle.dm_mirror.proofs.Come.Moved.{came_on, not_over, with_resident}
+use Rattle.dm_mirror.proofs.Residents.{ring_is}
+use Rattle.dm_mirror.proofs.Sized.{size_at}
+use Rattle.dm_mirror.proofs.Names.{HereStands, Resident, resident_at, restarted}
 use Rattle.dm_kernel.specs.declared.part.Part.TheVariants as part
 use Rattle.dm_kernel.specs.State as machine
 use Rattle.dm_rule.specs.Migrating as migrating
 use Rattle.dm_mirror.proofs.Cargoes.{comes_again}
-use Rattle.dm_mirror.proofs.Gone.{living_sort}
 use Rattle.dm_mirror.proofs.Handle.Taking.{some_same}
 use Rattle.dm_mirror.proofs.LeftOver.{brings_on, left_keeps, left_told, over_is, piece_only, record_apart, record_kept, still_over}
 
@@ -87,57 +91,71 @@ left_back b m pt l placed records k y p c a i t z told between about st bag =
           )
     ]
 
+-- nothing waits for what has come
+moved_none : (r : Resident) → residents.moved r ≡ residents.with_queue [] (residents.moved r)
+moved_none (Resident.Process x) = refl
+moved_none (Resident.Board v) = refl
+moved_none (Resident.Manager g) = refl
+
+none_waits : (r : Resident) → [] ≡ residents.queue_of (residents.moved r)
+none_waits (Resident.Process x) = refl
+none_waits (Resident.Board v) = refl
+none_waits (Resident.Manager g) = refl
+
 pub turns_restart : (b : Boot) (m : ℕ) (pt : Point) (l : Placed) (records : AllRecords) (k : KernelState) (y : Message) (p : Pid) (q : Pid) → Comes b m pt l records k y p → y.what ≡ What.Restart q → TurnsAt b m pt l records k
 turns_restart b m pt l records k y p q c e =
     let v = pt.view in
     let a = arrives b m pt l records k y p c in
-    let x = a.process in
+    let r = a.resident in
+    let y_ = residents.moved r in
     let s = record k { inbox = c.rest } in
     let carried = subst (λ (w : What). Carries p a.cargo (v.asked p) (incoming_of (k.records p)) w) e a.carries in
     let is : kind_of y.what ≡ MessageKind.Restart = ap kind_of e in
     let late : is_early (kind_of y.what) ≡ false = ap is_early is in
     let h = before b m pt l records k y p c a Nothing late carried.1 in
     let incoming = known_incoming b m pt l k y p a late in
-    let state : KernelState = record s { records = with_record k.records p (Record.Here (way.moved x)); ring = k.ring ++ p ∷ []; inbox = h.arrival.held ++ c.rest } in
+    let state : KernelState = record s { records = with_record k.records p (Record.Here y_); ring = machine.ring_with k.ring p y_; inbox = h.arrival.held ++ c.rest } in
     let next = back_point pt m p in
-    let placed = with_process l p (Some (way.moved x)) in
+    let came = came_on b pt (begun pt m) l p r c.run c.mirrors (mirrors_view pt.kernel v (begun pt m).view pt.addresses l refl c.mirrors) a.is_resident in
+    let placed = with_resident l p y_ in
     let front = at_machine v.inbox m (drop 1 (v.inbox m)) in
     let stands = c.stands in
-    let there : state.records p ≡ Some (Record.Here (way.moved x)) = set_self k.records p (Some (Record.Here (way.moved x))) in
-    let others : (r : Pid) → pid_eq p r ≡ false → state.records r ≡ k.records r = λ r off. set_off k.records p r (Some (Record.Here (way.moved x))) off in
-    let set : (r : Pid) → pid_eq p r ≡ false → placed.processes r ≡ l.processes r = λ r off. set_off l.processes p r (Some (way.moved x)) off in
+    let there : state.records p ≡ Some (Record.Here y_) = set_self k.records p (Some (Record.Here y_)) in
+    let others : (q : Pid) → pid_eq p q ≡ false → state.records q ≡ k.records q = λ q off. set_off k.records p q (Some (Record.Here y_)) off in
+    let here : HereStands placed p (v.queue m p) y_ =
+    (([], came.here ∙ ap Some (moved_none r)), ap (map l.bag) (c.run.based.lists.queue m p (ap has_no_queue incoming) (not_over b pt l p r c.run c.mirrors a.is_resident)) ∙ ap (map Some) (none_waits r)) in
     let mine : KnownStands placed p (v.queue m p) (next.view.held m p) (next.view.known m p) (state.records p) =
     subst (KnownStands placed p (v.queue m p) (next.view.held m p) (next.view.known m p)) (sym there)
-    (subst (λ (n : Known). KnownStands placed p (v.queue m p) (next.view.held m p) n (Some (Record.Here (way.moved x)))) (sym (at_record_at v.known m p Here))
-    (([], set_self l.processes p (Some (way.moved x))), ap (map l.bag) (c.run.based.lists.queue m p (ap has_no_queue incoming) (living_sort (pt.kernel.processes p) (plain_process x) a.alive)))) in
-    let keeps : is_server p ≡ true → state.records p ≡ k.records p = λ is. absurd (false≢true (sym a.server ∙ is)) in
+    (subst (λ (n : Known). KnownStands placed p (v.queue m p) (next.view.held m p) n (Some (Record.Here y_))) (sym (at_record_at v.known m p Here)) here) in
     let boxes : (n : ℕ) → n ≢ m → at_machine front m (v.held m p ++ front m) n ≡ v.inbox n = λ n off. machine_off front m n (v.held m p ++ front m) off ∙ machine_off v.inbox m n (drop 1 (v.inbox m)) off in
-    let processes : (n : ℕ) (r : Pid) → n ≢ m → has_process (v.known n r) ≡ true → placed.processes r ≡ l.processes r = λ n r off has. elim (cases_Bool (pid_eq p r)) [
-      | inl same ↦ absurd (false≢true (sym (not_elsewhere b m pt l k y p a n is off) ∙ ap (λ (z : Pid). has_process (v.known n z)) (pid_eq-is p r same) ∙ has))
-      | inr apart ↦ set r apart
+    let elsewhere_ : (n : ℕ) (q : Pid) → n ≢ m → has_process (v.known n q) ≡ true → resident_at placed q ≡ resident_at l q = λ n q off has. elim (cases_Bool (pid_eq p q)) [
+      | inl same ↦ absurd (false≢true (sym (not_elsewhere b m pt l k y p a n is off) ∙ ap (λ (z : Pid). has_process (v.known n z)) (pid_eq-is p q same) ∙ has))
+      | inr apart ↦ came.others q apart
     ] in
     let line = Line.Migration Stage.Restarted p in
+    let machines : length b.machines ≡ l.manager.machines = sym c.run.based.machines ∙ sym c.mirrors.plain.machines in
+    let images : length b.images ≡ l.manager.images = sym (ap length c.run.based.images) ∙ sym c.mirrors.plain.images in
     let asker : h.arrival.asker ≡ l.notes p = ap (λ (z : Arrival). z.asker) h.pieces ∙ ap (λ (z : Cargo). z.asker) (sym a.is_cargo) in
     -- where messages stand then
     let back_box : v.held m p ++ at_machine v.inbox m (drop 1 (v.inbox m)) m ≡ v.held m p ++ c.ids = ap (λ (xs : List MsgId). v.held m p ++ xs) (machine_self v.inbox m (drop 1 (v.inbox m)) ∙ first_gone y.id c.ids (v.inbox m) c.box) in
     let ends : EndsMove b m pt l records k p line state next.view placed = record {
       run = c.run;
       said = refl;
-      mirrors = restarted_mirrors (begun pt m) l p x (mirrors_view pt.kernel v (begun pt m).view pt.addresses l refl c.mirrors) a.is_process;
-      kernel = stands_set b pt next l placed m k state p (search (others, set, record_others, mine, keeps)) stands
-          (ap (λ ring. ring ++ p ∷ []) stands.ring ∙ sym (machine_self v.ring m (v.ring m ++ p ∷ [])))
+      mirrors = came.mirrors;
+      kernel = stands_set b pt next l placed m k state p (search (others, came.others, came.system, record_others, mine)) stands
+          (ap (λ ring. machine.ring_with ring p y_) stands.ring ∙ ring_is placed p (v.queue m p) (v.ring m) y_ here ∙ sym (machine_self v.ring m (view.ring_with (v.ring m) p)))
           (subst (λ (is : List MsgId). AreMessages l.bag is (h.arrival.held ++ c.rest)) (sym (machine_self front m (v.held m p ++ front m) ∙ back_box))
           (are_both l.bag (v.held m p) c.ids h.arrival.held c.rest h.comes_.held c.others))
-          stands.made (room_stays k.room _ _ _ (taken_same pt next m refl (λ n. refl) (λ q. taken_at_record pt next m p q Here refl refl (sym (ap takes_room incoming)))) stands.room) stands.servers stands.preds;
+          stands.made (room_stays k.room _ _ _ (taken_same pt next m refl (λ n. refl) (λ q. taken_at_record pt next m p q Here refl refl (sym (ap takes_room incoming)))) stands.room) stands.preds;
       sent = λ count. count;
       over = refl;
-      elsewhere = search (boxes, machine_off, record_away, processes);
+      elsewhere = search (boxes, machine_off, record_away, elsewhere_, came.system);
       own = λ i z f plain. let g = c.own i z f plain in record { told = g.told; mine = g.mine; sender = g.sender };
       tokens = tokens_one v next.view l placed records (at_machine records m state.records) p (record {
         stays = record {
           told = refl;
           asked = λ r off. refl;
-          processes = set;
+          residents = came.others;
           notes = λ r off. refl;
           records = λ n r off. records_as records m n k.records state.records r c.mine (others r off);
           known = λ n r off. record_apart v.known m n p r Here off;
@@ -145,19 +163,19 @@ turns_restart b m pt l records k y p q c e =
         came = λ i t z told between st. (back_stood b m pt l records k y p c i z st, refl);
         left = λ i t z told between about st. left_back b m pt l placed records k y p c a i t z told between about st refl;
       }) c.tokens;
-      process = way.moved x;
+      resident = y_;
       is = there;
       known = at_record_at v.known m p Here;
-      server = a.server;
       alone = λ n off. not_elsewhere b m pt l k y p a n is off;
       stood = back_stood b m pt l records k y p c;
       left = λ i t z told between about st. left_back b m pt l placed records k y p c a i t z told between about st refl;
     } in
     ends_move_row b m pt l records k p line state next.view placed ends Outcome.Done (l.notes p) refl (λ n. refl)
-    (turn_kernel b m pt l records k y p c a (Some (record { state = state; parts = part.Says line ∷ tells_asker m (way.moved x) Outcome.Done (l.notes p) }))
-    (ap (kernel_handles b s y) e ∙ ap (λ (z : Pid). bind (incoming_of (k.records z)) (restarts s z)) carried.0
-    ∙ ap (λ (o : Option machine.KernelKnown). bind (incoming_of o) (restarts s p)) h.is
-    ∙ ap (restarts_as s p h.arrival) (comes_again l p a.source (v.held m p) h.arrival x a.is_process (ap (λ (z : Arrival). z.wanted) h.pieces) h.comes_)
-    ∙ (λ i. Some (record { state = state; parts = part.Says line ∷ tells_asker (stands.here i) (way.moved x) Outcome.Done (asker i) }))))
+    (turn_kernel b m pt l records k y p c a (Some (record { state = state; parts = part.Says line ∷ departing_.tells_of m y_ Outcome.Done (l.notes p) }))
+    (ap (kernel_handles b s y) e ∙ ap (λ (z : Pid). bind (incoming_of (k.records z)) (restarts b s z)) carried.0
+    ∙ ap (λ (o : Option machine.KernelKnown). bind (incoming_of o) (restarts b s p)) h.is
+    ∙ (λ i. restarts_as s p h.arrival (restarted (machines i) (images i) h.arrival))
+    ∙ ap (restarts_as s p h.arrival) (comes_again l p a.source (v.held m p) h.arrival r a.is_resident (ap (λ (z : Arrival). z.wanted) h.pieces) h.comes_)
+    ∙ (λ i. Some (record { state = state; parts = part.Says line ∷ departing_.tells_of (stands.here i) y_ Outcome.Done (asker i) }))))
     (outcome_kernel b m pt l records k y p c a (Some (Part.Says line ∷ migrating.tells_asker (pt.kernel.notes p) Outcome.Done))
-    (ap (λ (k : MessageKind). told_step pt m y.id p (fits (free_room b pt m) (length x.memory / 256)) (plain_process x) (sort_of k)) is))
+    (ap (λ (k : MessageKind). told_step pt m y.id p (fits (free_room b pt m) (size_at r).blocks) (size_at r) (sort_of k)) is))

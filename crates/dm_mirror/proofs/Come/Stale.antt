@@ -1,8 +1,8 @@
 -- A piece comes that isn't awaited: a line says so, and nothing else changes.
-use Rattle.dm_mirror.proofs.Names.{◌≡◌, ℕ, ◌+◌, ◌/◌, ◌==◌, ◌&&◌, not, Bool, true, false, List, [], ◌∷◌, length, map, refl, ap, ◌∙◌, sym, arith, if◌then◌else◌, Option, Some, false≢true, Pid, Message, PlainProcess, kind_of, Line, Boot, bind}
-use Rattle.dm_mirror.proofs.Names.{Point, moved, incoming_of, kernel_handles, KernelState, Part, turned, told_step, fits, free_room, sort_of, kernel_hears, Of, about_of, told_of, Placed, AllRecords, is_server, at_machine, without_front}
+use Rattle.dm_mirror.proofs.Names.{◌≡◌, ℕ, ◌+◌, ◌/◌, ◌==◌, ◌&&◌, not, Bool, true, false, List, [], ◌∷◌, length, map, refl, ap, ◌∙◌, sym, arith, if◌then◌else◌, Option, Some, false≢true, Pid, Message, kind_of, Line, Boot, bind}
+use Rattle.dm_mirror.proofs.Names.{Point, moved, incoming_of, kernel_handles, KernelState, Part, turned, told_step, fits, free_room, sort_of, kernel_hears, Of, about_of, told_of, Placed, AllRecords, at_machine, without_front}
 use Rattle.dm_mirror.proofs.Names.{mirrors_view, hears_piece, is_expected, says_stale, takes_piece, is_stale, is_waited_from, brings_piece, false_from_ne_true, left_true, buried}
-use Rattle.dm_onekernel.specs.Step as kernel
+use Rattle.dm_rule.specs.Migrating.{Size, size_of}
 use Rattle.dm_rule.specs.Parts as rule
 use Rattle.dm_mirror.proofs.Turning.{NoneEnds, Nothing, TurnsAt, begun}
 use Rattle.dm_mirror.proofs.LeftOver.{tokens_less}
@@ -29,8 +29,8 @@ turns_stale b m pt l records k y p h about number handles stale =
     let taken = taken_same pt next m refl (λ n. refl) (λ q. refl) in
     let off : is_waited_from y.id.from.home (v.known m p) ≡ false = waits_not (brings_piece (sort_of (kind_of y.what))) (is_waited_from y.id.from.home (v.known m p)) stale in
     let unexpected : is_expected (incoming_of (k.records p)) y.id.from.home ≡ false =
-    false_from_ne_true (is_expected (incoming_of (k.records p)) y.id.from.home) (λ e. false≢true (sym off ∙ expected_waits b pt l m k p y.id.from.home (is_server p) refl h.stands e)) in
-    let step : PlainProcess → Option (List rule.Part) = λ x. told_step pt m y.id p (fits (free_room b pt m) (length x.memory / 256)) x (sort_of (kind_of y.what)) in
+    false_from_ne_true (is_expected (incoming_of (k.records p)) y.id.from.home) (λ e. false≢true (sym off ∙ expected_waits b pt l m k p y.id.from.home h.stands e)) in
+    let step : Size → Option (List rule.Part) = λ x. told_step pt m y.id p (fits (free_room b pt m) x.blocks) x (sort_of (kind_of y.what)) in
     record {
       state = s;
       says = Line.Stale y.id ∷ [];
@@ -40,9 +40,9 @@ turns_stale b m pt l records k y p h about number handles stale =
           (to_kernel b s y number ∙ handles s ∙ ap (λ (d : Bool). if d then bind (incoming_of (k.records p)) (takes_piece s y p) else says_stale s y) unexpected);
       outcome = outcome_hears b m pt l records k y h (Some (rule.Says (Line.Stale y.id) ∷ []))
           (to_kernel_hears b pt m y.id (told_of y) number ∙ ap (kernel_hears b pt m y.id (kind_of y.what)) about
-          ∙ ap (λ (d : Bool). if d then Some (buried pt m y.id p) else if is_stale pt m y.id (kind_of y.what) p then Some (rule.Says (Line.Stale y.id) ∷ []) else bind (kernel.alive (pt.kernel.processes p)) step)
+          ∙ ap (λ (d : Bool). if d then Some (buried pt m y.id p) else if is_stale pt m y.id (kind_of y.what) p then Some (rule.Says (Line.Stale y.id) ∷ []) else bind (size_of pt.kernel p) step)
           (piece_goes_on (kind_of y.what) (left_true (brings_piece (sort_of (kind_of y.what))) (not (is_waited_from y.id.from.home (v.known m p))) stale))
-          ∙ ap (λ (d : Bool). if d then Some (rule.Says (Line.Stale y.id) ∷ []) else bind (kernel.alive (pt.kernel.processes p)) step) stale);
+          ∙ ap (λ (d : Bool). if d then Some (rule.Says (Line.Stale y.id) ∷ []) else bind (size_of pt.kernel p) step) stale);
       next = next;
       after = refl;
       placed = l;

@@ -1,4 +1,4 @@
--- A turn that handles such a message says a line and answers, or says a line alone; what it leaves as it was.
+-- A turn that handles such a message says a line, or two, and answers, or says a line alone; what it leaves as it was.
 use Rattle.dm_mirror.proofs.Names.{turns, ◌≡◌, ◌≢◌, ℕ, ◌+◌, ◌≤◌, ◌==◌, Bool, true, false, List, [], ◌∷◌, map, refl, ap, ◌∙◌, sym, subst, arith, if◌then◌else◌, slice_get, Option, None, Some, false≢true, nat_tests, Addr, Pid, pid_eq, pid_of}
 use Rattle.dm_mirror.proofs.Names.{place_of, kernel_at, Message, MsgId, What, id_of, kind_of, plain_what, with_what, Step, incoming_of, Boot, id_eq-same, Line, Addresses, Gets, Receiver, Sender, given, goes_between, own_given, unmoved}
 use Rattle.dm_mirror.proofs.Names.{to_kernel, is_between, tells_onward, Point, after, outcome, taken_at, at_machine, Spot, Inbox, standing, times, Known, Of, View, once_at, is_server, Placed, enclosed, mirrors_view, room_of, KernelState}
@@ -12,10 +12,14 @@ pub use Rattle.dm_mirror.proofs.End.Servers.{off as eq_off}
 use Rattle.dm_mirror.proofs.Handle.Taking.{machine_off, stands_set}
 use Rattle.dm_mirror.proofs.Leave.Fronts.{records_as, tokens_one, untold_next as next_untold}
 use Rattle.dm_kernel.specs.declared.part.Part.TheVariants as part
+use Rattle.dm_kernel.specs.declared.part.Part as parts
+use Rattle.dm_mirror.proofs.Names.{append-nil}
 use Rattle.dm_kernel.specs.State as machine
 use Rattle.dm_mirror.proofs.Handle.Taking.{some_same}
 use Rattle.dm_mirror.proofs.LeftOver.{over_is}
 use Rattle.dm_mirror.proofs.Turning.{IsLeftOver}
+use Rattle.dm_mirror.proofs.Residents.{same_system}
+use Rattle.dm_mirror.proofs.Names.{◌++◌}
 
 -- the view behind the line: the message is handled, and what is known of p here and of its predecessors, how much of it was asked for, and
 -- whether all of it has come, may be new
@@ -45,7 +49,7 @@ gets_sender a v id q gs e = ap (λ (g : List Gets). given a g (Sender id)) e ∙
 
 -- the answer, and what is as it was
 pub record Answer (b : Boot) (m : ℕ) (pt : Point) (l : Placed) (records : AllRecords) (k : KernelState) (y : Message) (p : Pid) (c : Comes b m pt l records k y p) (a : Arrives b m pt l k y p) : Type 0 where
-  pub line : Line
+  pub lines : List Line
   pub what : What
   pub state : KernelState
   pub box : List MsgId
@@ -53,9 +57,9 @@ pub record Answer (b : Boot) (m : ℕ) (pt : Point) (l : Placed) (records : AllR
   pub asked : Pid → ℕ
   pub come : Pid → Bool
   pub preds : ℕ → Pid → ℕ → Bool
-  pub turn : turns b k k.inbox ≡ Some (record { state = state; parts = part.Says line ∷ part.Routes (own k y.sender what) ∷ [] })
-  pub outcome : outcome b pt (Step.Turn m) ≡ Some (Part.Says line ∷ to_kernel (kind_of what) y.id.from.home ∷ [])
-  pub after : after (begun pt m) (line ∷ []) ≡ Some (come_point pt (come_view pt.view m p box known asked come preds))
+  pub turn : turns b k k.inbox ≡ Some (record { state = state; parts = map part.Says lines ++ part.Routes (own k y.sender what) ∷ [] })
+  pub outcome : outcome b pt (Step.Turn m) ≡ Some (map Part.Says lines ++ to_kernel (kind_of what) y.id.from.home ∷ [])
+  pub after : after (begun pt m) lines ≡ Some (come_point pt (come_view pt.view m p box known asked come preds))
   pub is_box : box ≡ c.ids
   pub known_off : (n : ℕ) (q : Pid) → pid_eq p q ≡ false → known n q ≡ pt.view.known n q
   pub known_away : (n : ℕ) (q : Pid) → n ≢ m → known n q ≡ pt.view.known n q
@@ -69,7 +73,6 @@ pub record Answer (b : Boot) (m : ℕ) (pt : Point) (l : Placed) (records : AllR
   pub inbox : state.inbox ≡ c.rest
   pub made : state.made ≡ k.made
   pub sent : state.sent ≡ k.sent + 1
-  pub servers : state.servers ≡ k.servers
   pub kept : PredsStand b (preds m) state.preds
   pub preds_away : (n : ℕ) (q : Pid) → n ≢ m → preds n q ≡ pt.view.preds n q
   pub over_is : state.over ≡ k.over
@@ -96,7 +99,7 @@ tokens_kept b m pt l records k y p c a box known asked come preds s is_box asked
       stays = record {
         told = refl;
         asked = asked_off;
-        processes = λ q off. refl;
+        residents = λ q off. refl;
         notes = λ q off. refl;
         records = λ n q off. records_as records m n k.records s.records q c.mine (records_off q off);
         known = known_off;
@@ -149,22 +152,22 @@ turns_answer b m pt l records k y p c a h =
     let next = come_point pt v in
     let stands = c.stands in
     let sender : y.sender ≡ kernel_at y.id.from.home = a.sender in
-    let keeps : is_server p ≡ true → h.state.records p ≡ k.records p = λ is. absurd (false≢true (sym a.server ∙ is)) in
     record {
       state = h.state;
-      says = h.line ∷ [];
+      says = h.lines;
       routes = Own (own k y.sender h.what) ∷ [];
       late = Nothing;
-      turn = h.turn;
-      outcome = h.outcome ∙ ap (λ (z : Addr). Some (Part.Says h.line ∷ Part.Owns (kind_of h.what) z.pid z.at ∷ [])) (sym sender);
+      turn = h.turn ∙ ap (λ (ps : List parts.Part). Some (record { state = h.state; parts = ps })) (sym (append-nil (map part.Says h.lines ++ part.Routes (own k y.sender h.what) ∷ [])));
+      outcome = h.outcome ∙ ap (λ (z : Addr). Some (map Part.Says h.lines ++ Part.Owns (kind_of h.what) z.pid z.at ∷ [])) (sym sender)
+          ∙ ap Some (sym (append-nil (map Part.Says h.lines ++ Part.Owns (kind_of h.what) y.sender.pid y.sender.at ∷ [])));
       next = next;
       after = h.after;
       placed = l;
       mirrors = mirrors_view pt.kernel pt.view v pt.addresses l refl c.mirrors;
-      kernel = stands_set b pt next l l m k h.state p (search (h.here, h.records_off, h.known_off, h.mine, keeps)) stands (h.ring ∙ stands.ring)
-          (ap (map l.bag) (machine_self pt.view.inbox m h.box ∙ h.is_box) ∙ c.others ∙ ap (map Some) (sym h.inbox)) (h.made ∙ stands.made) h.room (h.servers ∙ stands.servers) h.kept;
+      kernel = stands_set b pt next l l m k h.state p (search (h.here, h.records_off, h.known_off, same_system l, h.mine)) stands (h.ring ∙ stands.ring)
+          (ap (map l.bag) (machine_self pt.view.inbox m h.box ∙ h.is_box) ∙ c.others ∙ ap (map Some) (sym h.inbox)) (h.made ∙ stands.made) h.room h.kept;
       sent = λ e. let f = h.sent in omega (arith, e, f);
-      elsewhere = search (machine_off, h.known_away, h.preds_away);
+      elsewhere = search (machine_off, h.known_away, h.preds_away, same_system l);
       may = (may_answer b m pt l records k y p c a h, tt);
       late_may = tt;
       over = NoneEnds h.over_is (λ q. refl);

@@ -74,6 +74,7 @@ hears_sort b pt m i is o box told = sort_of pt m (rule.hears b pt m i o) (λ ps.
     state = mute pt m (Says (Line.Proto i) ∷ to_kernel MessageKind.State i.from.home ∷ []) (refl, refl, tt);
     next_chunk = mute pt m (Says (Line.Proto i) ∷ to_kernel MessageKind.PullState i.from.home ∷ []) (refl, refl, tt);
     last_chunk = mute pt m (Says (Line.Migration Stage.StateTaken p) ∷ to_kernel MessageKind.PullBlock i.from.home ∷ []) (refl, refl, tt);
+    server_chunk = λ server. mute pt m (Says (Line.Migration Stage.StateTaken p) ∷ Says (Line.Migration Stage.MemoryTaken p) ∷ to_kernel MessageKind.AllTaken i.from.home ∷ []) (refl, refl, (refl, refl, tt));
     memory = mute pt m (Says (Line.Proto i) ∷ to_kernel MessageKind.Memory i.from.home ∷ []) (refl, refl, tt);
     next_block = mute pt m (Says (Line.Proto i) ∷ to_kernel MessageKind.PullBlock i.from.home ∷ []) (refl, refl, tt);
     last_block = mute pt m (Says (Line.Migration Stage.MemoryTaken p) ∷ to_kernel MessageKind.AllTaken i.from.home ∷ []) (refl, refl, tt);
@@ -101,13 +102,13 @@ turns_sort b pt m [] run e =
     paid_sort pt m (rule.goes_round b pt m p) (round_paid b pt m p)
 turns_sort b pt m (i ∷ is) run e = comes_sort b pt m i is (pt.kernel.bag i) run e refl
 
-pub outcome_sort : (b : Boot) (pt : Point) (d : Step) → Run b pt → SortIf pt (actor d) (outcome b pt d)
+pub outcome_sort : (b : Boot) (pt : Point) (d : Step) → Run b pt → SortIf pt (actor pt.view d) (outcome b pt d)
 outcome_sort b pt (Step.Turn m) run = turns_sort b pt m (pt.view.inbox m) run refl
 outcome_sort b pt (Step.Tick m) run = Pays (net_paid (Says (Line.Resent m (rule.outstanding_count pt.view m pt.kernel.machines)) ∷ rule.resends pt.view m pt.kernel.machines) pt.kernel (tt, resends_net pt.view m pt.kernel.machines))
 outcome_sort b pt (Step.Deliver a c k) run =
     let there = slice_get (pt.view.pair a c).wire k in
     Pays (net_paid (rule.arrives a c (pt.view.pair a c) (pt.view.pair c a) there) pt.kernel (arrives_net a c (pt.view.pair a c) (pt.view.pair c a) there))
-outcome_sort b pt (Step.Migrate p m) run = mute pt 0 (migrates pt p) (by_migrates AreMute pt p (refl, refl, tt) (refl, refl, tt) (λ n off is. tt))
+outcome_sort b pt (Step.Migrate p m) run = mute pt (actor pt.view (Step.Migrate p m)) (migrates pt p) (by_migrates AreMute pt p (refl, refl, tt) (refl, refl, tt) (λ a here knows. tt))
 outcome_sort b pt (Step.CallOff p m) run =
     let calls : ℕ → List Part = λ from. to_kernel MessageKind.CallOff from ∷ [] in
     by_calls_off (Sort pt m) pt m p (mute pt m (Says (Line.NoCall p) ∷ []) (refl, refl, tt))

@@ -1,4 +1,6 @@
 -- Which lines leave what has moved, comes or has gone on.
+use Rattle.dm_mirror.proofs.Names.{actor, is_server}
+use Rattle.dm_rulelaws.specs.Sizes.{server_size}
 use Rattle.dm_mirror.proofs.Names.{◌≡◌, ◌≢◌, ◌⊎◌, inl, inr, ℕ, ◌+◌, ◌<◌, ◌≤◌, ◌==◌, ◌&&◌, Bool, true, false, List, [], ◌∷◌, ◌++◌, length, drop, refl, ap, ◌∙◌, sym, subst, arith, if◌then◌else◌, slice_get, Option, None, Some, cases_Bool}
 use Rattle.dm_mirror.proofs.Names.{false≢true, nat_tests, Pid, MsgId, MessageKind, plain_kind, PlainMessage, Boot, id_eq-same, bind-is, Step, Line, Load, Receiver, IsStep, Says, Routes, Again, Owns, Transmits, Spelled, goes_out}
 use Rattle.dm_mirror.proofs.Names.{packet_line, puts, spelled, Point, after, moved, group_of, Spot, Untaken, standing, times, View, Pair, after_put, gone_after, is_kernels, own_id, view_after, routed_on, migrates, to_of, machine_of, Pairs}
@@ -58,6 +60,8 @@ pub record CountsFew (pt : Point) : Type 0 where
   pub own : (m : ℕ) → pt.view.count m + 16 ≤ 4294967295
   pub moves : (p : Pid) → pt.view.moves p < 4294967295
   pub waiting : (m : ℕ) (p : Pid) → length (pt.view.queue m p) + length (pt.view.held m p) < 4294967295
+  -- how large a server is
+  pub sizes : (p : Pid) → is_server p ≡ true → server_size pt.kernel p < 2147483648
 
 -- The acting machine stays, but for heads and what comes over wires.
 
@@ -264,20 +268,20 @@ ids_within : (n : ℕ) (v w : View) → ((a c : ℕ) → (w.pair a c).ids ≡ (v
 ids_within n v w same h = λ a c some. h a c (let e = ap (λ (ids : List MsgId). length ids) (same a c) in omega (arith, some, e))
 
 -- each group
-pub within_group : (b : Boot) (pt : Point) (d : Step) (w : Spelled) (n : ℕ) → 0 < n → pt.kernel.machines ≡ n → w.point.kernel.machines ≡ n → IsStep n d → group_of b pt d ≡ Some w → Pairs pt.view → Run b w.point → PairsWithin n pt.view → PairsWithin n w.point.view
-within_group b pt (Step.Turn m) w n some same after_ fit e pairs run h =
+pub within_group : (b : Boot) (pt : Point) (d : Step) (w : Spelled) (n : ℕ) → 0 < n → pt.kernel.machines ≡ n → w.point.kernel.machines ≡ n → IsStep n d → group_of b pt d ≡ Some w → Pairs pt.view → actor pt.view d < n → Run b w.point → PairsWithin n pt.view → PairsWithin n w.point.view
+within_group b pt (Step.Turn m) w n some same after_ fit e pairs acts run h =
     let g = group_is b pt (Step.Turn m) w e in
     let start = moved pt (Line.Head (Step.Turn m)) pt.kernel in
     let fresh = fresh_parts g.parts pt.view.pair pt.view m start g.rest (turns_fit pt.view.pair b pt m (pt.view.inbox m) g.parts g.is) g.said (fresh_start pt.view start.view m refl refl pairs) in
     fresh_within b pt.view m n w.point after_ fit run (subst (λ (q : Point). Fresh pt.view m q.view) g.point fresh) h
-within_group b pt (Step.Tick m) w n some same after_ fit e pairs run h =
+within_group b pt (Step.Tick m) w n some same after_ fit e pairs acts run h =
     let g = group_is b pt (Step.Tick m) w e in
     let qs = Says (Line.Resent m (rule.outstanding_count pt.view m pt.kernel.machines)) ∷ rule.resends pt.view m pt.kernel.machines in
     let f : qs ≡ g.parts = let k = g.is in cc in
     let start = moved pt (Line.Head (Step.Tick m)) pt.kernel in
     subst (λ (q : Point). PairsWithin n q.view) g.point
     (ids_within n pt.view g.rest.point.view (λ a c. net_parts qs start g.rest (tt, resends_net pt.view m pt.kernel.machines) (ap (spelled start) f ∙ g.said) a c) h)
-within_group b pt (Step.Deliver a c k) w n some same after_ fit e pairs run h =
+within_group b pt (Step.Deliver a c k) w n some same after_ fit e pairs acts run h =
     let g = group_is b pt (Step.Deliver a c k) w e in
     let there = slice_get (pt.view.pair a c).wire k in
     let qs = rule.arrives a c (pt.view.pair a c) (pt.view.pair c a) there in
@@ -285,13 +289,13 @@ within_group b pt (Step.Deliver a c k) w n some same after_ fit e pairs run h =
     let start = moved pt (Line.Head (Step.Deliver a c k)) pt.kernel in
     subst (λ (q : Point). PairsWithin n q.view) g.point (ids_within n pt.view g.rest.point.view
     (λ x y. net_parts qs start g.rest (arrives_net a c (pt.view.pair a c) (pt.view.pair c a) there) (ap (spelled start) f ∙ g.said) x y ∙ set_ids pt.view.pair a c (marked (pt.view.pair a c) k) x y ((a == x) && (c == y)) refl refl) h)
-within_group b pt (Step.Migrate p m) w n some same after_ fit e pairs run h =
+within_group b pt (Step.Migrate p m) w n some same after_ fit e pairs acts run h =
     let g = group_is b pt (Step.Migrate p m) w e in
     let f : migrates pt p ≡ g.parts = let k = g.is in cc in
     let start = moved pt (Line.Head (Step.Migrate p m)) pt.kernel in
-    let fresh = fresh_parts (migrates pt p) pt.view.pair pt.view 0 start g.rest (migrates_fit pt.view.pair pt p) (ap (spelled start) f ∙ g.said) (fresh_start pt.view start.view 0 refl refl pairs) in
-    fresh_within b pt.view 0 n w.point after_ some run (subst (λ (q : Point). Fresh pt.view 0 q.view) g.point fresh) h
-within_group b pt (Step.CallOff p m) w n some same after_ fit e pairs run h =
+    let fresh = fresh_parts (migrates pt p) pt.view.pair pt.view (actor pt.view (Step.Migrate p m)) start g.rest (migrates_fit pt.view.pair pt p) (ap (spelled start) f ∙ g.said) (fresh_start pt.view start.view (actor pt.view (Step.Migrate p m)) refl refl pairs) in
+    fresh_within b pt.view (actor pt.view (Step.Migrate p m)) n w.point after_ acts run (subst (λ (q : Point). Fresh pt.view (actor pt.view (Step.Migrate p m)) q.view) g.point fresh) h
+within_group b pt (Step.CallOff p m) w n some same after_ fit e pairs acts run h =
     let g = group_is b pt (Step.CallOff p m) w e in
     let qs = migrating.calls_off pt m p (pt.view.known m p) in
     let f : qs ≡ g.parts = let k = g.is in cc in

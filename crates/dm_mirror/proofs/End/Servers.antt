@@ -3,7 +3,7 @@ use Rattle.dm_mirror.proofs.Names.{◌≡◌, ◌≢◌, ℕ, suc, ◌+◌, ◌-
 use Rattle.dm_mirror.proofs.Names.{Place, plain_link, Message, Boot, switchboard, manager, Switchboard, Manager, Named, plain_named, plain_child, plain_pending, plain_manager, EndLine, Addresses, Child, Name, list_line, HomeStands, Point}
 use Rattle.dm_mirror.proofs.Names.{Placed, Mirrors, WorldState, History, PairStands, zero, ◌<◌, Option, None, Pid, pid_of, MsgId, first_number, or, home_with, joined_below, AreMessages, option_map, Link, link_at, Process, plain_process}
 use Rattle.dm_mirror.proofs.Names.{Standing, Slot, ◌⊎◌, subst, inl, inr, cases_Bool, false≢true, MessageKind, Phase, Rests, Moves, IsIn, IsToken, kind_comes, is_away, is_due, is_restart, kind_leaves, View, Known, is_gone, Here, Frozen}
-use Rattle.dm_mirror.proofs.Names.{Incoming, eq_self, is_it, left_true, not_false, message_id, Pending}
+use Rattle.dm_mirror.proofs.Names.{Incoming, eq_self, is_it, left_true, not_false, message_id, not, ◌&&◌, Pending}
 use Rattle.dm_message.specs.Ids as message
 use Rattle.dm_rule.specs.Ends as rule
 use Rattle.dm_rule.specs.Spots as spots
@@ -30,26 +30,39 @@ pending_same : (rs : List Pending) → world.pending_lines rs ≡ rule.pending_l
 pending_same [] = refl
 pending_same (r ∷ rs) = ap (λ (ls : List EndLine). EndLine.Pending (message.id_of manager r.n) ∷ ls) (pending_same rs)
 
--- the lines of the servers
-abbrev servers_of : Addresses → Switchboard → Manager → List EndLine
-servers_of a b g =
-    EndLine.Server switchboard b.sent
-    ∷ EndLine.Server manager g.sent
-    ∷ rule.name_lines a 0 b.names
-    ++ rule.child_lines a 1 g.children
-    ++ rule.pending_lines g.pending
-
-pub servers_said : (pt : Point) (l : Placed) → Mirrors pt.kernel pt.view pt.addresses l → world.server_lines (Some (record { board = l.board; manager = l.manager })) ≡ rule.server_lines pt
-servers_said pt l h =
+-- what the switchboard keeps, and what the manager does
+pub names_said : (pt : Point) (l : Placed) → Mirrors pt.kernel pt.view pt.addresses l → world.name_lines l.board.names ≡ rule.name_lines pt.addresses 0 pt.kernel.switchboard.names
+names_said pt l h =
     let a = pt.addresses in
-    let first = (EndLine.Server switchboard l.board.sent) in
-    let second = (EndLine.Server manager l.manager.sent) in
-    let names = names_same a 0 l.board.names (λ j k e. ap (λ (i : ℕ). a (Name i)) (let f : 0 + j ≡ j = omega arith in f) ∙ h.places.name j k e) in
-    let children = children_same a 1 l.manager.children (λ j c e. ap (λ (i : ℕ). a (Child i)) (let f : 1 + j ≡ suc j = omega arith in f) ∙ h.places.child (suc j) c e) in
-    ap (λ (ls : List EndLine). first ∷ second ∷ ls ++ world.child_lines 1 l.manager.children ++ world.pending_lines l.manager.pending) names
-    ∙ (ap (λ (ls : List EndLine). first ∷ second ∷ rule.name_lines a 0 (map plain_named l.board.names) ++ ls ++ world.pending_lines l.manager.pending) children
-    ∙ (ap (λ (ls : List EndLine). first ∷ second ∷ rule.name_lines a 0 (map plain_named l.board.names) ++ rule.child_lines a 1 (map plain_child l.manager.children) ++ ls) (pending_same l.manager.pending)
-    ∙ (ap (λ (b : Switchboard). servers_of a b (plain_manager l.manager)) h.plain.board ∙ ap (servers_of a pt.kernel.switchboard) h.plain.manager)))
+    names_same a 0 l.board.names (λ j k e. ap (λ (i : ℕ). a (Name i)) (let f : 0 + j ≡ j = omega arith in f) ∙ h.places.name j k e)
+    ∙ ap (λ (b : Switchboard). rule.name_lines a 0 b.names) h.plain.board
+
+-- the lines of the manager
+abbrev kept_of : Addresses → Manager → List EndLine
+kept_of a g = rule.child_lines a 1 g.children ++ rule.pending_lines g.pending
+
+pub children_said : (pt : Point) (l : Placed) → Mirrors pt.kernel pt.view pt.addresses l
+    → world.child_lines 1 l.manager.children ++ world.pending_lines l.manager.pending ≡ rule.child_lines pt.addresses 1 pt.kernel.manager.children ++ rule.pending_lines pt.kernel.manager.pending
+children_said pt l h =
+    let a = pt.addresses in
+    ap (λ (ls : List EndLine). ls ++ world.pending_lines l.manager.pending) (children_same a 1 l.manager.children (λ j c e. ap (λ (i : ℕ). a (Child i)) (let f : 1 + j ≡ suc j = omega arith in f) ∙ h.places.child (suc j) c e))
+    ∙ ap (λ (ls : List EndLine). rule.child_lines a 1 (map plain_child l.manager.children) ++ ls) (pending_same l.manager.pending)
+    ∙ ap (kept_of a) h.plain.manager
+
+-- where a server stands, as the machine says it and as the lines do
+here_same : (s : Standing) → world.stands_here s ≡ rule.stands_here s
+here_same Standing.Here = refl
+here_same Standing.Leaving = refl
+here_same Standing.Arriving = refl
+
+place_same : (m : ℕ) (p : Pid) (s : Standing) (c : Bool) → (if c then [] else EndLine.Place p m s ∷ []) ≡ (if not c then EndLine.Place p m s ∷ [] else [])
+place_same m p s true = refl
+place_same m p s false = refl
+
+pub sent_same : (m : ℕ) (p : Pid) (s : Standing) (sent : ℕ) → world.sent_lines m p s sent ≡ rule.sent_lines p sent (Some (record { at = m; standing = s }))
+sent_same m p s sent =
+    ap (λ (c : Bool). EndLine.Server p sent ∷ (if (m == 0) && c then [] else EndLine.Place p m s ∷ [])) (here_same s)
+    ∙ ap (λ (ls : List EndLine). EndLine.Server p sent ∷ ls) (place_same m p s ((m == 0) && rule.stands_here s))
 
 -- the messages that one machine has for another, and that were not taken yet
 untaken_said : (b : Boot) (pt : Point) (l : Placed) (w : WorldState) (h : History) (a c : ℕ) → PairStands b pt l w h a c → world.names_of (world.untaken w a c) ≡ spots.untaken (pt.view.pair a c)

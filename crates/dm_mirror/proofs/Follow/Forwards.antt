@@ -1,9 +1,9 @@
--- A message for a process that has gone on follows it, and its sender may be told.
+-- A message for a process or a server that has gone on follows it, and its sender may be told.
 use Rattle.dm_mirror.proofs.Names.{◌≡◌, ℕ, ◌+◌, Bool, true, false, List, [], ◌∷◌, map, refl, ap, ◌∙◌, sym, subst, is_some, arith, if◌then◌else◌, Option, None, Some, false≢true, Pid, pid_of, place_of, update_of, Message, MsgId, nat_tests}
 use Rattle.dm_mirror.proofs.Names.{Record, Line, MessageKind, id_eq, id_of, kind_of, plain_kind, PlainMessage, plain_message, plain_what, with_what, incoming_of, sent_on, Boot, manager, forwards_and, KernelState, id_eq-same, id_eq-swap}
 use Rattle.dm_mirror.proofs.Names.{Addresses, Receiver, Sender, is_told_back, unmoved, forwards_on, process_told, Point, moved, at_machine, Queue, Held, About, Known, Forward, forward_about, forwarded_for, handled, own_id, receiver_of}
 use Rattle.dm_mirror.proofs.Names.{is_fixed, Run, Placed, Mirrors, free_off, plain_sent_on, forwarded_mirrors, moves_forwarded, update_gets, parts, mirrors_view, AllOwnStand, OwnStands, KnownStands, AllRecords, Wants, ◌++◌, Wanted, Arrival}
-use Rattle.dm_mirror.proofs.Names.{with_known, pid_eq-is, at_record, times, Frozen, Incoming, is_server, Part, with_sent}
+use Rattle.dm_mirror.proofs.Names.{with_known, pid_eq-is, at_record, times, Frozen, Incoming, Part, with_sent}
 use Rattle.dm_rule.specs.Rule.{process_handles}
 use Rattle.dm_places.specs.PlacedStep.{with_message}
 use Rattle.dm_rule.specs.View.{held_for}
@@ -14,11 +14,13 @@ use Rattle.dm_migrate.specs.Arrival as arrival
 use Rattle.dm_migrate.specs.Departure as departure
 use Rattle.dm_kernel.specs.Handle as machine_handle
 use Rattle.dm_mirror.proofs.Recorded.{recorded}
-use Rattle.dm_mirror.proofs.Follow.Fronts.{IsProcess, front_still, is_process_of, plain_kinds, Fronts, apart_at, known_on, queue_apart, machine_process, rule_process, set_self, set_other, handled_point, handled_view}
+use Rattle.dm_mirror.proofs.Follow.Fronts.{front_still, plain_kinds, Fronts, apart_at, known_on, queue_apart, machine_process, rule_process, set_self, set_other, handled_point, handled_view}
 use Rattle.dm_mirror.proofs.Follow.Fronts.{turns_follow}
 use Rattle.dm_mirror.proofs.Deliver.Moves.{messages_push}
 use Rattle.dm_mirror.proofs.Turning.{own_first, AllMayPut, MayOwn, MayPut, On, Own, Route, TurnsAt, begun, owns, part_of, rule_part_of}
 use Rattle.dm_mirror.proofs.Handle.Taking.{held_apart, record_off, record_others}
+use Rattle.dm_mirror.proofs.Residents.{same_manager, same_system}
+use Rattle.dm_mirror.proofs.Names.{◌==◌}
 
 pub next_untold : (b : Boot) (m : ℕ) (pt : Point) → Run b pt → pt.view.told (id_of (pid_of m 0) (pt.view.count m)) ≡ None
 next_untold b m pt run = run.based.phased.state.numbered m (pt.view.count m) (omega arith)
@@ -101,11 +103,11 @@ update_may b m pt l records all k y c at moves knows has =
     }
 
 -- the message that goes on may be put
-on_may : (b : Boot) (m : ℕ) (pt : Point) (l : Placed) (records all : AllRecords) (k : KernelState) (y : Message) (c : Fronts b m pt l records k y) (at moves : ℕ) → IsProcess y.to.pid
+on_may : (b : Boot) (m : ℕ) (pt : Point) (l : Placed) (records all : AllRecords) (k : KernelState) (y : Message) (c : Fronts b m pt l records k y) (at moves : ℕ) → (y.to.pid.num == 0) ≡ false
     → MayPut (handled_point pt m y.id pt.view.held (About.Place y.to.pid at moves) (forwarded pt m y at).addresses) (with_message l y.id (Some (sent_on at moves y))) all 0 (On (sent_on at moves y))
 on_may b m pt l records all k y c at moves is = search (id_eq-same, front_still, y.id, c.told_is, c.kind, c.receiver)
 
-all_may : (b : Boot) (m : ℕ) (pt : Point) (l : Placed) (records all : AllRecords) (k : KernelState) (y : Message) (c : Fronts b m pt l records k y) (at moves : ℕ) (back : Bool) → IsProcess y.to.pid → pt.view.known m y.to.pid ≡ Forward at moves → is_told_back (kind_of y.what) ≡ back
+all_may : (b : Boot) (m : ℕ) (pt : Point) (l : Placed) (records all : AllRecords) (k : KernelState) (y : Message) (c : Fronts b m pt l records k y) (at moves : ℕ) (back : Bool) → (y.to.pid.num == 0) ≡ false → pt.view.known m y.to.pid ≡ Forward at moves → is_told_back (kind_of y.what) ≡ back
     → AllMayPut (handled_point pt m y.id pt.view.held (About.Place y.to.pid at moves) (forwarded pt m y at).addresses) (with_message l y.id (Some (sent_on at moves y))) all 0 (routes_of y (machine.own_id k) k.here at moves back)
 all_may b m pt l records all k y c at moves true is knows has = (on_may b m pt l records all k y c at moves is, (update_may b m pt l records all k y c at moves knows has, tt))
 all_may b m pt l records all k y c at moves false is knows has = (on_may b m pt l records all k y c at moves is, tt)
@@ -116,16 +118,15 @@ record Sent (k s : KernelState) (routes : List Route) : Type 0 where
   ring : s.ring ≡ k.ring
   made : s.made ≡ k.made
   room : s.room ≡ k.room
-  servers : s.servers ≡ k.servers
   preds : s.preds ≡ k.preds
   over : s.over ≡ k.over
   sent : s.sent ≡ k.sent + owns routes
 
 sent_is : (k : KernelState) (rest : List Message) (y : Message) (id : MsgId) (here at moves : ℕ) (back : Bool) → Sent k (sent_by (record k { inbox = rest }) back) (routes_of y id here at moves back)
-sent_is k rest y id here at moves true = record { here = refl; records = refl; ring = refl; made = refl; room = refl; servers = refl; preds = refl; over = refl; sent = (let e : k.sent + 1 ≡ k.sent + (0 + (1 + 0)) = omega arith in e) }
-sent_is k rest y id here at moves false = record { here = refl; records = refl; ring = refl; made = refl; room = refl; servers = refl; preds = refl; over = refl; sent = (let e : k.sent ≡ k.sent + (0 + 0) = omega arith in e) }
+sent_is k rest y id here at moves true = record { here = refl; records = refl; ring = refl; made = refl; room = refl; preds = refl; over = refl; sent = (let e : k.sent + 1 ≡ k.sent + (0 + (1 + 0)) = omega arith in e) }
+sent_is k rest y id here at moves false = record { here = refl; records = refl; ring = refl; made = refl; room = refl; preds = refl; over = refl; sent = (let e : k.sent ≡ k.sent + (0 + 0) = omega arith in e) }
 
-forward_row : (b : Boot) (m : ℕ) (pt : Point) (l : Placed) (records : AllRecords) (k : KernelState) (y : Message) (c : Fronts b m pt l records k y) (at moves : ℕ) (back : Bool) → IsProcess y.to.pid → pt.view.known m y.to.pid ≡ Forward at moves → is_told_back (kind_of y.what) ≡ back → TurnsAt b m pt l records k
+forward_row : (b : Boot) (m : ℕ) (pt : Point) (l : Placed) (records : AllRecords) (k : KernelState) (y : Message) (c : Fronts b m pt l records k y) (at moves : ℕ) (back : Bool) → (y.to.pid.num == 0) ≡ false → pt.view.known m y.to.pid ≡ Forward at moves → is_told_back (kind_of y.what) ≡ back → TurnsAt b m pt l records k
 forward_row b m pt l records k y c at moves back is knows has =
     let p = y.to.pid in
     let s = record k { inbox = c.rest } in
@@ -134,7 +135,7 @@ forward_row b m pt l records k y c at moves back is knows has =
     let topic = About.Place p at moves in
     let next = forwarded pt m y at in
     let placed = with_message l y.id (Some (sent_on at moves y)) in
-    let r = recorded b pt l m k p (Forward at moves) c.stands is.server knows in
+    let r = recorded b pt l m k p (Forward at moves) c.stands knows in
     let out = outcome_forwards b m pt l records k y c (machine.own_id k) k.here at moves back (plain_message y) refl has in
     let start = mirrors_view pt.kernel pt.view (begun pt m).view pt.addresses l refl c.mirrors in
     let gone = forwarded_mirrors (begun pt m) l y.id y c.told at at moves start c.there c.told_is (ap (pt.view.known m) c.receiver ∙ knows) (own_free b m pt l records k y c) in
@@ -160,19 +161,19 @@ forward_row b m pt l records k y c at moves back is knows has =
           let o = c.own y.id y c.there (sym (plain_sent_on at moves y) ∙ ap plain_message w ∙ plain) in
           subst (OwnStands pt.view y.id) w (record { told = o.told; mine = o.mine; sender = o.sender }));
       sent = same.sent;
-      known = λ server. subst (KnownStands placed p (pt.view.queue m p) (pt.view.held m p) (pt.view.known m p)) (ap (λ (f : Pid → Option machine.KernelKnown). f p) (sym same.records))
-          (known_on l placed p (pt.view.queue m p) (pt.view.held m p) (pt.view.known m p) (k.records p) refl refl
-          (λ j least. bag_off j (apart_at b m pt l records k y c (Queue m p) j (queue_apart m m p) least)) (λ j least. bag_off j (apart_at b m pt l records k y c (Held m p) j (held_apart m m p) least)) (c.stands.known p server));
-      still = front_still b m pt l records k y c is.number;
+      known = subst (KnownStands placed p (pt.view.queue m p) (pt.view.held m p) (pt.view.known m p)) (ap (λ (f : Pid → Option machine.KernelKnown). f p) (sym same.records))
+          (known_on l placed p (pt.view.queue m p) (pt.view.held m p) (pt.view.known m p) (k.records p) (same_manager l placed refl) refl refl
+          (λ j least. bag_off j (apart_at b m pt l records k y c (Queue m p) j (queue_apart m m p) least)) (λ j least. bag_off j (apart_at b m pt l records k y c (Held m p) j (held_apart m m p) least)) (c.stands.known p));
+      still = front_still b m pt l records k y c is;
       may = all_may b m pt l records (at_machine records m state.records) k y c at moves back is knows has;
-      leaves = search (bag_off, same.here, kept, same.ring, (let e_ : (sent_by (record k { inbox = c.rest }) back).inbox ≡ c.rest = grind (arith, nat_tests) in e_), same.made, same.room, same.preds, same.servers ∙ c.stands.servers, same.over, wants);
+      leaves = search (bag_off, same.here, kept, same.ring, (let e_ : (sent_by (record k { inbox = c.rest }) back).inbox ≡ c.rest = grind (arith, nat_tests) in e_), same.made, same.room, same.preds, same_manager l placed refl, same.over, wants);
     })
 
--- where the process has gone on
+-- where it has gone on
 pub forwards_turn : (b : Boot) (m : ℕ) (pt : Point) (l : Placed) (records : AllRecords) (k : KernelState) (y : Message) (c : Fronts b m pt l records k y) (at moves : ℕ) → is_fixed y.to.pid ≡ false → pt.view.known m y.to.pid ≡ Forward at moves → TurnsAt b m pt l records k
-forwards_turn b m pt l records k y c at moves fixed knows = forward_row b m pt l records k y c at moves (is_told_back (kind_of y.what)) (is_process_of y.to.pid fixed) knows refl
+forwards_turn b m pt l records k y c at moves fixed knows = forward_row b m pt l records k y c at moves (is_told_back (kind_of y.what)) fixed knows refl
 
--- A message for a process that leaves a machine or comes to it is held there.
+-- A message for what leaves a machine or comes to it is held there.
 
 times_other : (i j : MsgId) (is : List MsgId) → id_eq i j ≡ false → times i (is ++ j ∷ []) ≡ times i is
 times_other i j [] off = ap (λ (c : Bool). (if c then 1 else 0) + 0) off
@@ -185,7 +186,7 @@ grown f m p n q i j off = grind (arith, nat_tests, times_other, pid_eq-is)
 abbrev held_list : Point → ℕ → Pid → MsgId → ℕ → Pid → List MsgId
 held_list pt m p i = at_record pt.view.held m p (pt.view.held m p ++ i ∷ [])
 
-held_row : (b : Boot) (m : ℕ) (pt : Point) (l : Placed) (records : AllRecords) (k : KernelState) (y : Message) (c : Fronts b m pt l records k y) (w : Known) (r new : machine.KernelKnown) → IsProcess y.to.pid → pt.view.known m y.to.pid ≡ w → k.records y.to.pid ≡ Some r
+held_row : (b : Boot) (m : ℕ) (pt : Point) (l : Placed) (records : AllRecords) (k : KernelState) (y : Message) (c : Fronts b m pt l records k y) (w : Known) (r new : machine.KernelKnown) → (y.to.pid.num == 0) ≡ false → pt.view.known m y.to.pid ≡ w → k.records y.to.pid ≡ Some r
     → machine_handle.process_handles (record k { inbox = c.rest }) y (Some r) ≡ Some (record { state = with_known (record k { inbox = c.rest }) y.to.pid new; parts = Part.Says (Line.Held y.id) ∷ [] })
     → ((x : PlainMessage) → process_handles pt m y.id x w ≡ Some (rule.Says (Line.Held y.id) ∷ [])) → process_told pt m y.id c.told w ≡ Some (rule.Says (Line.Held y.id) ∷ [])
     → KnownStands l y.to.pid (pt.view.queue m y.to.pid) (pt.view.held m y.to.pid ++ y.id ∷ []) w (Some new)
@@ -196,7 +197,6 @@ held_row b m pt l records k y c w r new is knows there turn bag own known wants 
     let topic = (begun pt m).view.topic in
     let state = with_known (record k { inbox = c.rest }) p new in
     let more : (n : ℕ) (q : Pid) (i : MsgId) → id_eq y.id i ≡ false → times i (held n q) ≡ times i (pt.view.held n q) = λ n q i off. grown pt.view.held m p n q i y.id (id_eq-swap i y.id ∙ off) in
-    let keeps : is_server p ≡ true → state.records p ≡ k.records p = λ server. absurd (false≢true (sym is.server ∙ server)) in
     let asked : (u : Wanted) → Wants (incoming_of (k.records p)) u → Wants (incoming_of (state.records p)) u = grind (arith, nat_tests, set_self) in
     turns_follow b m pt l records k y c (record {
       state = state;
@@ -213,20 +213,20 @@ held_row b m pt l records k y c w r new is knows there turn bag own known wants 
       mirrors = mirrors_view pt.kernel pt.view (handled_view pt m y.id held topic) pt.addresses l refl c.mirrors;
       own_front = λ z e plain. c.own y.id z e plain;
       sent = (let e : k.sent ≡ k.sent + 0 = omega arith in e);
-      known = λ server. subst (KnownStands l p (pt.view.queue m p) (held m p) (pt.view.known m p)) (sym (set_self k.records p new))
+      known = subst (KnownStands l p (pt.view.queue m p) (held m p) (pt.view.known m p)) (sym (set_self k.records p new))
           (subst (λ (j : Known). KnownStands l p (pt.view.queue m p) (held m p) j (Some new)) (sym knows)
           (subst (λ (h : List MsgId). KnownStands l p (pt.view.queue m p) h w (Some new)) (sym (record_self pt.view.held m p (pt.view.held m p ++ y.id ∷ []))) known));
-      still = front_still b m pt l records k y c is.number;
+      still = front_still b m pt l records k y c is;
       may = tt;
-      leaves = search (record_off, record_others, more, set_other, c.stands.servers, keeps, asked);
+      leaves = search (record_off, record_others, more, set_other, same_system l, asked);
     })
 
--- held where the process leaves
+-- held where it leaves
 pub held_leaving : (b : Boot) (m : ℕ) (pt : Point) (l : Placed) (records : AllRecords) (k : KernelState) (y : Message) (c : Fronts b m pt l records k y) (to : ℕ) → is_fixed y.to.pid ≡ false → pt.view.known m y.to.pid ≡ Frozen to → TurnsAt b m pt l records k
 held_leaving b m pt l records k y c to fixed knows =
     let p = y.to.pid in
-    let is = is_process_of p fixed in
-    let (d, there, s) = recorded b pt l m k p (Frozen to) c.stands is.server knows in
+    let is = fixed in
+    let (d, there, s) = recorded b pt l m k p (Frozen to) c.stands knows in
     held_row b m pt l records k y c (Frozen to) (Record.Frozen d) (Record.Frozen (departure.with_held d y)) is knows there refl (λ x. refl) refl
     (record { to = s.to; cargo = s.cargo; here = s.here; held = messages_push l.bag (pt.view.held m p) d.held y.id y s.held c.there; whole = s.whole }) (λ u h. h)
 
@@ -234,7 +234,7 @@ held_leaving b m pt l records k y c to fixed knows =
 pub held_coming : (b : Boot) (m : ℕ) (pt : Point) (l : Placed) (records : AllRecords) (k : KernelState) (y : Message) (c : Fronts b m pt l records k y) (from : ℕ) → is_fixed y.to.pid ≡ false → pt.view.known m y.to.pid ≡ Incoming from → TurnsAt b m pt l records k
 held_coming b m pt l records k y c from fixed knows =
     let p = y.to.pid in
-    let is = is_process_of p fixed in
-    let (a, there, s) = recorded b pt l m k p (Incoming from) c.stands is.server knows in
+    let is = fixed in
+    let (a, there, s) = recorded b pt l m k p (Incoming from) c.stands knows in
     held_row b m pt l records k y c (Incoming from) (Record.Incoming a) (Record.Incoming (arrival.with_held a y)) is knows there refl (λ x. refl) refl
     (record { source = s.source; cargo = s.cargo; there = s.there; whole = s.whole; pieces = ap (λ (z : Arrival). arrival.with_held z y) s.pieces; held = messages_push l.bag (pt.view.held m p) a.held y.id y s.held c.there }) (λ u h. h)

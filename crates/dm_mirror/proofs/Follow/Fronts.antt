@@ -3,7 +3,7 @@ use Rattle.dm_mirror.proofs.Names.{◌≡◌, ℕ, ◌≤◌, ◌<◌, ◌==◌,
 use Rattle.dm_mirror.proofs.Names.{PlainWhat, plain_message, plain_what, with_what, Boot, switchboard, manager, bind, KernelState, is_between, Point, Inbox, times, standing, About, Told, is_server, is_fixed, OwnTold, own_sort, Run, Placed}
 use Rattle.dm_mirror.proofs.Names.{Mirrors, parts, AllOwnStand, told_of, AreMessages, KernelStands, AllRecords, TokensStand, told_there, ◌≢◌, ◌+◌, inl, inr, arith, if◌then◌else◌, cases_Bool, nat_tests, id_eq, id_eq-is, id_eq-same}
 use Rattle.dm_mirror.proofs.Names.{at_machine, without_front, Spot, Held, StandsOnce, StandsOutside, StandsRight, Known, is_kernels, stands_right, once_at, KnownStands, with_record, handles, Turned, pid_eq-same, process_told, comes_to, not}
-use Rattle.dm_mirror.proofs.Names.{slice_get, incoming_of, Taken, Wanted, Arrival, room_of, turns, pid_eq-is, Line, Addresses, after, after_line, taken_at, Queue, Of, View, handled, OwnStands, RoomStands, servers_at, Carries, Wants}
+use Rattle.dm_mirror.proofs.Names.{slice_get, incoming_of, Taken, Wanted, Arrival, room_of, turns, pid_eq-is, Line, Addresses, after, after_line, taken_at, Queue, Of, View, handled, OwnStands, RoomStands, resident_at, Carries, Wants}
 use Rattle.dm_mirror.proofs.Names.{destination_of, Part, Cargo, ◌⊎◌, cargo_at, sort_of, is_due_piece, pulls_piece, hears, kernel_hears, PredsStand}
 pub use Rattle.dm_rulelaws.proofs.Goes.Turns.{times_self, times_more}
 pub use Rattle.dm_rule.proofs.Lines.{eq_self, at_machine_at as machine_self}
@@ -22,6 +22,7 @@ use Rattle.dm_mirror.proofs.Turning.{NoneEnds, Elsewhere, Nothing, Route, TurnsA
 use Rattle.dm_mirror.proofs.Cargoes.{cargo_same}
 use Rattle.dm_mirror.proofs.LeftOver.{known_due, left_keeps, left_told, one_keeps}
 use Rattle.dm_mirror.proofs.Handle.Taking.{to_known, rule_to_known}
+use Rattle.dm_mirror.proofs.Residents.{SameSystem}
 
 -- a message that stands somewhere stands there once, and nowhere else
 outside_once : (c : Bool) (f : Spot → ℕ) (x : Spot) → StandsOutside c f → 1 ≤ f x → StandsOnce f
@@ -84,16 +85,6 @@ plain_kinds w o e = grind (arith, nat_tests)
 -- nor is a kernel's own message for a process or a server
 own_still : (k : MessageKind) (q : Pid) (a : About) → own_sort k q a ≡ true → (q.num == 0) ≡ false → is_between k ≡ false
 own_still k q a e num = grind (arith, nat_tests)
-
--- who is no kernel and no server
-pub record IsProcess (p : Pid) : Type 0 where
-  pub number : (p.num == 0) ≡ false
-  pub board : pid_eq p switchboard ≡ false
-  pub manager_ : pid_eq p manager ≡ false
-  pub server : is_server p ≡ false
-
-pub is_process_of : (p : Pid) → is_fixed p ≡ false → IsProcess p
-is_process_of p e = record { number = grind (arith, nat_tests); board = grind (arith, nat_tests); manager_ = grind (arith, nat_tests); server = grind (arith, nat_tests) }
 
 -- what the bag without places has of it
 pub plain_there : (b : Boot) (m : ℕ) (pt : Point) (l : Placed) (records : AllRecords) (k : KernelState) (y : Message) (c : Fronts b m pt l records k y) → pt.kernel.bag y.id ≡ plain_message y
@@ -168,25 +159,25 @@ pub fronted : (b : Boot) (m : ℕ) (pt : Point) (l : Placed) (records : AllRecor
 fronted b m pt l records k i is below run own_told mirrors stands own tokens mine counted box =
     fronted_by b m pt l records k i is k.inbox below run own_told mirrors stands own tokens mine counted box refl (subst (λ (z : List MsgId). AreMessages l.bag z k.inbox) box stands.inbox)
 
--- What a machine and the rule do with a message for a process, by what they know of it.
+-- What a machine and the rule do with a message for a process or a server, by what they know of it.
 
--- the machine does what it knows of the process, and so does the rule
-pub machine_process : (b : Boot) (s : KernelState) (y : Message) (r : Option machine.KernelKnown) (o : Option Turned) → IsProcess y.to.pid → s.records y.to.pid ≡ r → machine_handle.process_handles s y r ≡ o → handles b s y ≡ o
-machine_process b s y r o is e h = to_known b s y r is.number e ∙ h
+-- the machine does what it knows of it, and so does the rule
+pub machine_process : (b : Boot) (s : KernelState) (y : Message) (r : Option machine.KernelKnown) (o : Option Turned) → (y.to.pid.num == 0) ≡ false → s.records y.to.pid ≡ r → machine_handle.process_handles s y r ≡ o → handles b s y ≡ o
+machine_process b s y r o num e h = to_known b s y r num e ∙ h
 
-bag_process : (b : Boot) (pt : Point) (m : ℕ) (id : MsgId) (x : PlainMessage) (k : Known) (o : Option (List rule.Part)) → IsProcess x.to → pt.view.known m x.to ≡ k → process_handles pt m id x k ≡ o → outcomes.handles b pt m id x ≡ o
-bag_process b pt m id x k o is e h = rule_to_known b pt m id x k is.number e ∙ h
+bag_process : (b : Boot) (pt : Point) (m : ℕ) (id : MsgId) (x : PlainMessage) (k : Known) (o : Option (List rule.Part)) → (x.to.num == 0) ≡ false → pt.view.known m x.to ≡ k → process_handles pt m id x k ≡ o → outcomes.handles b pt m id x ≡ o
+bag_process b pt m id x k o num e h = rule_to_known b pt m id x k num e ∙ h
 
 -- a message of the bag, or a kernel's own
-pub rule_process : (b : Boot) (m : ℕ) (pt : Point) (l : Placed) (records : AllRecords) (k : KernelState) (y : Message) (c : Fronts b m pt l records k y) (w : Known) (o : Option (List rule.Part)) (z : Option PlainMessage) → IsProcess y.to.pid → pt.view.known m y.to.pid ≡ w → plain_message y ≡ z
+pub rule_process : (b : Boot) (m : ℕ) (pt : Point) (l : Placed) (records : AllRecords) (k : KernelState) (y : Message) (c : Fronts b m pt l records k y) (w : Known) (o : Option (List rule.Part)) (z : Option PlainMessage) → (y.to.pid.num == 0) ≡ false → pt.view.known m y.to.pid ≡ w → plain_message y ≡ z
     → ((x : PlainMessage) → z ≡ Some x → process_handles pt m y.id x w ≡ o) → (z ≡ None → process_told pt m y.id c.told w ≡ o) → comes_to b pt m y.id (pt.kernel.bag y.id) ≡ o
 rule_process b m pt l records k y c w o None is e plain bag own =
-    let num : (c.told.receiver.num == 0) ≡ false = ap (λ (p : Pid). p.num == 0) c.receiver ∙ is.number in
+    let num : (c.told.receiver.num == 0) ≡ false = ap (λ (p : Pid). p.num == 0) c.receiver ∙ is in
     ap (comes_to b pt m y.id) (plain_there b m pt l records k y c ∙ plain) ∙ ap (hears b pt m y.id) c.told_is ∙ ap (λ (d : Bool). if d then kernel_hears b pt m y.id c.told.kind c.told.about else process_told pt m y.id c.told (pt.view.known m c.told.receiver)) num
     ∙ ap (process_told pt m y.id c.told) (ap (pt.view.known m) c.receiver ∙ e) ∙ own refl
 rule_process b m pt l records k y c w o (Some x) is e plain bag own =
     let to : y.to.pid ≡ x.to = (parts y x plain).to in
-    ap (comes_to b pt m y.id) (plain_there b m pt l records k y c ∙ plain) ∙ bag_process b pt m y.id x w o (subst IsProcess to is) (ap (pt.view.known m) (sym to) ∙ e) (bag x refl)
+    ap (comes_to b pt m y.id) (plain_there b m pt l records k y c ∙ plain) ∙ bag_process b pt m y.id x w o (ap (λ (p : Pid). p.num == 0) (sym to) ∙ is) (ap (pt.view.known m) (sym to) ∙ e) (bag x refl)
 
 -- the record of a process is set
 pub set_self : (records : Pid → Option machine.KernelKnown) (p : Pid) (r : machine.KernelKnown) → with_record records p r p ≡ Some r
@@ -224,13 +215,12 @@ pub record FollowLeaves (m : ℕ) (pt : Point) (l : Placed) (k : KernelState) (r
   pub held_others : (q : Pid) → pid_eq process q ≡ false → held m q ≡ pt.view.held m q
   pub held_from : (n : ℕ) (q : Pid) (j : MsgId) → id_eq i j ≡ false → times j (held n q) ≡ times j (pt.view.held n q)
   -- the kernel with places
-  pub processes : (q : Pid) → pid_eq process q ≡ false → placed.processes q ≡ l.processes q
+  pub residents : (q : Pid) → pid_eq process q ≡ false → resident_at placed q ≡ resident_at l q
+  pub system : SameSystem l placed
   pub notes : (q : Pid) → placed.notes q ≡ l.notes q
-  pub elsewhere : (n : ℕ) → n ≢ m → has_process (pt.view.known n process) ≡ true → placed.processes process ≡ l.processes process
-  pub moving : (j : MsgId) (t : Told) (z : Spot) → pt.view.told j ≡ Some t → is_between t.kind ≡ true → t.about ≡ Of process → 1 ≤ standing pt.view j z → is_due_piece pt.view process j t ≡ true ⊎ pulls_piece (sort_of t.kind) ≡ true → placed.processes process ≡ l.processes process
+  pub elsewhere : (n : ℕ) → n ≢ m → has_process (pt.view.known n process) ≡ true → resident_at placed process ≡ resident_at l process
+  pub moving : (j : MsgId) (t : Told) (z : Spot) → pt.view.told j ≡ Some t → is_between t.kind ≡ true → t.about ≡ Of process → 1 ≤ standing pt.view j z → is_due_piece pt.view process j t ≡ true ⊎ pulls_piece (sort_of t.kind) ≡ true → resident_at placed process ≡ resident_at l process
   pub bag : (j : MsgId) → id_eq i j ≡ false → placed.bag j ≡ l.bag j
-  pub board : m ≢ 0 → placed.board ≡ l.board
-  pub manager : m ≢ 0 → placed.manager ≡ l.manager
   -- the machine
   pub here : state.here ≡ k.here
   pub records_ : (q : Pid) → pid_eq process q ≡ false → state.records q ≡ k.records q
@@ -239,9 +229,7 @@ pub record FollowLeaves (m : ℕ) (pt : Point) (l : Placed) (k : KernelState) (r
   pub made : state.made ≡ k.made
   pub preds : state.preds ≡ k.preds
   pub room : state.room ≡ k.room
-  pub servers : state.servers ≡ servers_at placed m
   pub over : state.over ≡ k.over
-  pub keeps : is_server process ≡ true → state.records process ≡ k.records process
   pub wants : (u : Wanted) → Wants (incoming_of (k.records process)) u → Wants (incoming_of (state.records process)) u
 
 pub record Follows (b : Boot) (m : ℕ) (pt : Point) (l : Placed) (records : AllRecords) (k : KernelState) (y : Message) (c : Fronts b m pt l records k y) : Type 0 where
@@ -260,7 +248,7 @@ pub record Follows (b : Boot) (m : ℕ) (pt : Point) (l : Placed) (records : All
   pub mirrors : Mirrors pt.kernel (handled_view pt m y.id held topic) addresses placed
   pub own_front : (z : Message) → placed.bag y.id ≡ Some z → plain_message z ≡ None → OwnStands pt.view y.id z
   pub sent : state.sent ≡ k.sent + owns routes
-  pub known : is_server process ≡ false → KnownStands placed process (pt.view.queue m process) (held m process) (pt.view.known m process) (state.records process)
+  pub known : KnownStands placed process (pt.view.queue m process) (held m process) (pt.view.known m process) (state.records process)
   -- it is no message of a migration under way
   pub still : is_between (kind_of y.what) ≡ false
   pub may : AllMayPut (handled_point pt m y.id held topic addresses) placed (at_machine records m state.records) 0 routes
@@ -289,14 +277,14 @@ stood b m pt l records k y c h i (Held n q) off least = subst (λ (j : ℕ). 1 �
 stood b m pt l records k y c h i (Inbox n) off least = inbox_from m n pt y.id i c.ids (m == n) refl c.box least
 stood b m pt l records k y c h i _ off least = least
 
--- a process that a message under way is about stays
+-- what a message under way is about stays
 process_stays : (b : Boot) (m : ℕ) (pt : Point) (l : Placed) (records : AllRecords) (k : KernelState) (y : Message) (c : Fronts b m pt l records k y) (h : Follows b m pt l records k y c) (p : Pid) (i : MsgId) (t : Told) (z : Spot)
-    → pt.view.told i ≡ Some t → is_between t.kind ≡ true → t.about ≡ Of p → 1 ≤ standing pt.view i z → is_due_piece pt.view p i t ≡ true ⊎ pulls_piece (sort_of t.kind) ≡ true → h.placed.processes p ≡ l.processes p
+    → pt.view.told i ≡ Some t → is_between t.kind ≡ true → t.about ≡ Of p → 1 ≤ standing pt.view i z → is_due_piece pt.view p i t ≡ true ⊎ pulls_piece (sort_of t.kind) ≡ true → resident_at h.placed p ≡ resident_at l p
 process_stays b m pt l records k y c h p i t z told between about least reads = elim (cases_Bool (pid_eq h.process p)) [
   | inl same ↦
       let e : h.process ≡ p = pid_eq-is h.process p same in
-      subst (λ (q : Pid). h.placed.processes q ≡ l.processes q) e (h.leaves.moving i t z told between (about ∙ ap Of (sym e)) least (subst (λ (q : Pid). is_due_piece pt.view q i t ≡ true ⊎ pulls_piece (sort_of t.kind) ≡ true) (sym e) reads))
-  | inr off ↦ h.leaves.processes p off
+      subst (λ (q : Pid). resident_at h.placed q ≡ resident_at l q) e (h.leaves.moving i t z told between (about ∙ ap Of (sym e)) least (subst (λ (q : Pid). is_due_piece pt.view q i t ≡ true ⊎ pulls_piece (sort_of t.kind) ≡ true) (sym e) reads))
+  | inr off ↦ h.leaves.residents p off
 ]
 
 record_wants : (b : Boot) (m : ℕ) (pt : Point) (l : Placed) (records : AllRecords) (k : KernelState) (y : Message) (c : Fronts b m pt l records k y) (h : Follows b m pt l records k y c) (p : Pid) (u : Wanted) → Wants (incoming_of (k.records p)) u → Wants (incoming_of (h.state.records p)) u
@@ -359,12 +347,12 @@ kernel_follows b m pt l records k y c h =
     let waits : (q : Pid) (j : MsgId) → 1 ≤ times j (pt.view.queue m q) → h.placed.bag j ≡ l.bag j = λ q j least. kept_at b m pt l records k y c h (Queue m q) j (queue_apart m m q) least in
     let holds : (q : Pid) (j : MsgId) → 1 ≤ times j (pt.view.held m q) → h.placed.bag j ≡ l.bag j = λ q j least. kept_at b m pt l records k y c h (Held m q) j (held_apart m m q) least in
     stands_set b pt (handled_point pt m y.id h.held h.topic h.addresses) l h.placed m k h.state h.process
-    (search (h.leaves.here, h.leaves.records_, h.leaves.held_others, h.leaves.processes, h.leaves.notes, waits, holds, h.known, h.leaves.keeps)) stands
+    (search (h.leaves.here, h.leaves.records_, h.leaves.held_others, h.leaves.residents, h.leaves.system, h.leaves.notes, waits, holds, h.known)) stands
     (h.leaves.ring ∙ stands.ring)
     (ap (map h.placed.bag) (machine_self pt.view.inbox m (without_front y.id (pt.view.inbox m)) ∙ front_gone y.id c.ids (pt.view.inbox m) c.box)
     ∙ map_same l.bag h.placed.bag c.ids (λ j least. h.leaves.bag j (apart_behind b m pt l records k y c j least)) ∙ c.others ∙ ap (map Some) (sym h.leaves.inbox))
     (h.leaves.made ∙ stands.made)
-    (subst (λ (t : Taken). RoomStands t (room_of (slice_get b.machines m)) (taken_at pt m pt.kernel.machines)) (sym h.leaves.room) stands.room) h.leaves.servers (subst (PredsStand b (pt.view.preds m)) (sym h.leaves.preds) stands.preds)
+    (subst (λ (t : Taken). RoomStands t (room_of (slice_get b.machines m)) (taken_at pt m pt.kernel.machines)) (sym h.leaves.room) stands.room) (subst (PredsStand b (pt.view.preds m)) (sym h.leaves.preds) stands.preds)
 
 elsewhere_follows : (b : Boot) (m : ℕ) (pt : Point) (l : Placed) (records : AllRecords) (k : KernelState) (y : Message) (c : Fronts b m pt l records k y) (h : Follows b m pt l records k y c)
     → Elsewhere m (begun pt m) l (handled_point pt m y.id h.held h.topic h.addresses) h.placed
@@ -372,16 +360,17 @@ elsewhere_follows b m pt l records k y c h = search (
   machine_off,
   h.leaves.held_off,
   h.leaves.notes,
+  h.leaves.system,
   others,
   λ (i : MsgId) (s : Spot) (is : is_elsewhere m s ≡ true) (least : 1 ≤ standing (begun pt m).view i s). kept_at b m pt l records k y c h s i (elsewhere_apart m s is) (standing_begun s i least),
 )
   where
-    others : (n : ℕ) (p : Pid) → n ≢ m → has_process (pt.view.known n p) ≡ true → h.placed.processes p ≡ l.processes p
+    others : (n : ℕ) (p : Pid) → n ≢ m → has_process (pt.view.known n p) ≡ true → resident_at h.placed p ≡ resident_at l p
     others n p off has = elim (cases_Bool (pid_eq h.process p)) [
       | inl same ↦
           let e : h.process ≡ p = pid_eq-is h.process p same in
-          subst (λ (q : Pid). h.placed.processes q ≡ l.processes q) e (h.leaves.elsewhere n off (ap (λ (q : Pid). has_process (pt.view.known n q)) e ∙ has))
-      | inr apart ↦ h.leaves.processes p apart
+          subst (λ (q : Pid). resident_at h.placed q ≡ resident_at l q) e (h.leaves.elsewhere n off (ap (λ (q : Pid). has_process (pt.view.known n q)) e ∙ has))
+      | inr apart ↦ h.leaves.residents p apart
     ]
 
     standing_begun : (s : Spot) (i : MsgId) → 1 ≤ standing (begun pt m).view i s → 1 ≤ standing pt.view i s

@@ -5,14 +5,16 @@ use Rattle.dm_mirror.proofs.Names.{resume_what, kill_what, written_what, gone_wh
 use Rattle.dm_mirror.proofs.Names.{PlainMessage, arith, nat_tests, Process, Alive, Life, OneKernel, plain_process, PlainProcess, pid_eq-same, blocks_of, alive_of, served_is, of_map, with_queue, here_handles, with_here, AreMessages}
 use Rattle.dm_mirror.proofs.Names.{is_server, pid_eq, false, begun, Outcome, move_what, here_free, sort_of, Ended, is_alive, ◌||◌, Inbox, is_fixed, subst, told_receiver}
 use Rattle.dm_rulelaws.proofs.Names.{with_sent}
-use Rattle.dm_mirror.proofs.Recorded.{recorded}
+use Rattle.dm_mirror.proofs.Recorded.{recorded, recorded_process}
+use Rattle.dm_mirror.proofs.Residents.{here_process, not_board, not_manager, resident_same, same_manager}
+use Rattle.dm_mirror.proofs.Names.{Resident, or-left, or-right, resident_at, ◌==◌}
 use Rattle.dm_rule.proofs.Names.{Part}
 use Rattle.dm_kernel.specs.declared.part.Part.TheVariants.{Routes}
 pub use Rattle.dm_rule.proofs.Turns.{without_front_none as front_none, at_record_same as queue_same}
 use Rattle.dm_mirror.proofs.Handle.Rows.{IsLeft, turns_row, here_left}
 use Rattle.dm_mirror.proofs.Handle.Taking.{Taking, sane_of, known_on, map_same, IsProcess, no_kernel, not_server, to_process, rule_to_process, rule_to_here, to_ended}
 use Rattle.dm_mirror.proofs.Turning.{Row, routed, rule_routed}
-use Rattle.dm_mirror.proofs.Handle.Servers.{placed_bag, placed_leaves, placed_processes, sent_leaves}
+use Rattle.dm_mirror.proofs.Handle.Servers.{board_of, manager_of, placed_bag, placed_leaves, placed_processes, sent_leaves}
 use Rattle.dm_rule.specs.Rule as rule
 use Rattle.dm_rule.specs.View as view
 use Rattle.dm_places.specs.PlacedStep as placed
@@ -31,21 +33,20 @@ pub record IsEnded (b : Boot) (m : ℕ) (pt : Point) (l : Placed) (k : KernelSta
   pub known : pt.view.known m p ≡ view.Unknown
   pub there : k.records p ≡ None
 
-pub is_ended : (b : Boot) (m : ℕ) (pt : Point) (l : Placed) (k : KernelState) (y : Message) (w : PlainWhat) → Taking b m pt l k y w → IsProcess y.to.pid → pt.view.known m y.to.pid ≡ view.Unknown → WhatFits pt.kernel y.id (plainly y w) w → IsEnded b m pt l k y.to.pid
-is_ended b m pt l k y w c h known fits =
+pub is_ended : (b : Boot) (m : ℕ) (pt : Point) (l : Placed) (k : KernelState) (y : Message) (w : PlainWhat) → Taking b m pt l k y w → (y.to.pid.num == 0) ≡ false → pt.view.known m y.to.pid ≡ view.Unknown → WhatFits pt.kernel y.id (plainly y w) w → IsEnded b m pt l k y.to.pid
+is_ended b m pt l k y w c num known fits =
     let p = y.to.pid in
-    let server = not_server p h in
     let to : c.front.told.receiver ≡ p = told_receiver b m pt y.id (plainly y w) c.front in
-    let loose : is_fixed p ≡ false = ap (λ (d : Bool). d || is_server p) h.number ∙ server in
     let gone : is_alive pt.kernel p ≡ false =
     subst (λ (q : Pid). is_alive pt.kernel q ≡ false) to
-    (not_alive b pt y.id (Inbox m) c.front.told c.run c.front.first c.front.told_is (ap is_fixed to ∙ loose) (ap (pt.view.known m) to ∙ known)) in
-    let (z, life) = ended_by (pt.kernel.processes p) (receiver_made pt.kernel y.id (plainly y w) w fits h.number server) (sym (ap (λ (d : Bool). d || is_some (kernel.alive (pt.kernel.processes p))) server) ∙ gone) in
-    record { process = h; because = z; life = life; known = known; there = recorded b pt l m k p view.Unknown c.stands server known }
+    (not_alive b pt y.id (Inbox m) c.front.told c.run c.front.first c.front.told_is (ap is_fixed to ∙ num) (ap (pt.view.known m) to ∙ known)) in
+    let server : is_server p ≡ false = or-left (is_server p) (is_some (kernel.alive (pt.kernel.processes p))) gone in
+    let (z, life) = ended_by (pt.kernel.processes p) (receiver_made pt.kernel y.id (plainly y w) w fits num server) (or-right (is_server p) (is_some (kernel.alive (pt.kernel.processes p))) gone) in
+    record { process = record { number = num; no_board = not_board p server; no_manager = not_manager p server }; because = z; life = life; known = known; there = recorded b pt l m k p view.Unknown c.stands known }
 
 -- the rows' parts
 ended_turn : (b : Boot) (m : ℕ) (pt : Point) (l : Placed) (k : KernelState) (y : Message) (w : PlainWhat) (c : Taking b m pt l k y w) (o : Option Turned) → IsEnded b m pt l k y.to.pid → ended_handles (record k { inbox = c.rest }) y y.what ≡ o → handles b (record k { inbox = c.rest }) y ≡ o
-ended_turn b m pt l k y w c o h e = to_ended b (record k { inbox = c.rest }) y h.process h.there ∙ e
+ended_turn b m pt l k y w c o h e = to_ended b (record k { inbox = c.rest }) y h.process.number h.there ∙ e
 
 dropped_view : (v : View) (i : MsgId) (o : Option Pid) → ((n : ℕ) (p : Pid) → times i (v.queue n p) ≡ 0) → view.dropped_for (handled v i) i o ≡ handled v i
 dropped_view v i None none = refl
@@ -72,9 +73,9 @@ drop_row b m pt l k y w c h drops turn outcome =
       outcome = rule_to_process b pt m y.id (plainly y w) h.process ∙ ap (rule.process_handles pt m y.id (plainly y w)) h.known ∙ outcome;
       fresh = λ a is. cc;
       plain = λ a is. cc;
-      mine = λ off bag holds. known_on l (placed.without_message l y.id) p (pt.view.queue m p) (pt.view.held m p) (pt.view.known m p) (k.records p)
-          refl refl bag holds (c.stands.known p off);
-      leaves = search (c.stands.servers);
+      mine = λ bag holds. known_on l (placed.without_message l y.id) p (pt.view.queue m p) (pt.view.held m p) (pt.view.known m p) (k.records p)
+          (same_manager l (placed.without_message l y.id) refl) refl refl bag holds (c.stands.known p);
+      leaves = search (same_manager l (placed.without_message l y.id) refl);
     })
 
 gone_row : (b : Boot) (m : ℕ) (pt : Point) (l : Placed) (k : KernelState) (y : Message) (w : PlainWhat) (c : Taking b m pt l k y w) → IsEnded b m pt l k y.to.pid → (u : PlainWhat)
@@ -107,9 +108,9 @@ gone_row b m pt l k y w c h u says plain turn outcome =
       outcome = rule_to_process b pt m y.id (plainly y w) h.process ∙ ap (rule.process_handles pt m y.id (plainly y w)) h.known ∙ outcome;
       fresh = λ z is. let same : a ≡ z = cc in ap (λ (n : Message). s.bag n.id) (sym same) ∙ bag_none seen.r seen.e s (answer_id y.id) (bag.fresh (answer_id y.id) refl) seen.sound.entered;
       plain = λ z is. let same : a ≡ z = cc in ap (λ (n : Message). is_some (plain_message n)) (sym same) ∙ plain;
-      mine = λ off same holds. known_on l on p (pt.view.queue m p) (pt.view.held m p) (pt.view.known m p) (k.records p)
-          refl refl same holds (c.stands.known p off);
-      leaves = search (c.stands.servers);
+      mine = λ same holds. known_on l on p (pt.view.queue m p) (pt.view.held m p) (pt.view.known m p) (k.records p)
+          (same_manager l on refl) refl refl same holds (c.stands.known p);
+      leaves = search (same_manager l on refl);
     })
 
 -- what is answered has a plain meaning
@@ -144,7 +145,7 @@ pub record IsHere (b : Boot) (m : ℕ) (pt : Point) (l : Placed) (k : KernelStat
   pub process : IsProcess p
   pub x : Process
   pub queue : List Message
-  pub there : k.records p ≡ Some (Record.Here x)
+  pub there : k.records p ≡ Some (Record.Here (Resident.Process x))
   pub placed : l.processes p ≡ Some (with_queue x queue)
   pub waits : AreMessages l.bag (pt.view.queue m p) x.queue
   pub life : pt.kernel.processes p ≡ Some (Alive (plain_process x))
@@ -158,11 +159,23 @@ is_here b m pt l k y w c h known =
     let p = y.to.pid in
     let server = not_server p h in
     let (z, life) = alive_of (pt.kernel.processes p) (sym (ap (λ (n : Known). agrees n (pt.kernel.processes p)) known) ∙ c.run.based.known.agree m p server) in
-    let (x, there, stands) = recorded b pt l m k p view.Here c.stands server known in
+    let r = recorded_process b pt l m k p c.stands server known in
+    let x = r.process in
     let (g, found, same) = of_map plain_process (l.processes p) z (sym (ap kernel.alive life) ∙ c.mirrors.plain.processes p) in
-    let e : g ≡ with_queue x stands.0.0 = let d : Some g ≡ Some (with_queue x stands.0.0) = sym found ∙ stands.0.1 in cc in
-    let whole : plain_process (with_queue x stands.0.0) ≡ z = ap plain_process (sym e) ∙ same in
-    search (there, stands.1, here_free pt.kernel pt.view m p c.run.based.noted known, life ∙ ap (λ (n : PlainProcess). Some (Alive n)) (sym whole), (c.mirrors.places.process p (with_queue x stands.0.0) stands.0.1).pid)
+    let e : g ≡ with_queue x r.waits = let d : Some g ≡ Some (with_queue x r.waits) = sym found ∙ r.there in cc in
+    let whole : plain_process (with_queue x r.waits) ≡ z = ap plain_process (sym e) ∙ same in
+    record {
+      process = h;
+      x = x;
+      queue = r.waits;
+      there = r.is;
+      placed = r.there;
+      waits = r.messages;
+      life = life ∙ ap (λ (n : PlainProcess). Some (Alive n)) (sym whole);
+      free = here_free pt.kernel pt.view m p c.run.based.noted known;
+      known = known;
+      pid = (c.mirrors.places.process p (with_queue x r.waits) r.there).pid;
+    }
 
 -- the rows' parts
 pub here_turn : (b : Boot) (m : ℕ) (pt : Point) (l : Placed) (k : KernelState) (y : Message) (w : PlainWhat) (c : Taking b m pt l k y w) (h : IsHere b m pt l k y.to.pid) (o : Option Turned) → here_handles (record k { inbox = c.rest }) y h.x y.what ≡ o → handles b (record k { inbox = c.rest }) y ≡ o
@@ -195,8 +208,9 @@ pub record Served (b : Boot) (m : ℕ) (pt : Point) (l : Placed) (k : KernelStat
   pub plain : (a : Message) → o ≡ Some a → is_some (plain_message a) ≡ true
   pub quiet : (v : View) (p : Pid) → view.ends_by (sort_of (plain_kind w)) v (Some p) ≡ v
 
-pub here_known : (on : Placed) (p : Pid) (queue held : List MsgId) (z : Process) (q : List Message) (r : Option state.KernelKnown) (n : Known) → r ≡ Some (Record.Here z) → n ≡ view.Here → on.processes p ≡ Some (with_queue z q) → AreMessages on.bag queue z.queue → KnownStands on p queue held n r
-here_known on p queue held z q r n is here there waits = grind (arith, nat_tests)
+pub here_known : (on : Placed) (p : Pid) (queue held : List MsgId) (z : Process) (q : List Message) (r : Option state.KernelKnown) (n : Known) → is_server p ≡ false → r ≡ Some (Record.Here (Resident.Process z)) → n ≡ view.Here → on.processes p ≡ Some (with_queue z q) → AreMessages on.bag queue z.queue → KnownStands on p queue held n r
+here_known on p queue held z q r n off is here there waits =
+    subst (KnownStands on p queue held n) (sym is) (subst (λ (k : Known). KnownStands on p queue held k (Some (Record.Here (Resident.Process z)))) (sym here) (here_process on p queue z q off there waits))
 
 pub served_row : (b : Boot) (m : ℕ) (pt : Point) (l : Placed) (k : KernelState) (y : Message) (w : PlainWhat) (c : Taking b m pt l k y w) (h : IsHere b m pt l k y.to.pid) → Served b m pt l k y w c h → Row b m pt l k
 served_row b m pt l k y w c h d =
@@ -212,9 +226,9 @@ served_row b m pt l k y w c h d =
     let v = handled (begun pt m).view y.id in
     let alive : next.processes p ≡ Some (Alive d.pz) = (sent_leaves u d.q).0 p ∙ ap (λ (g : Bool). if g then Some (Alive d.pz) else s.processes p) (pid_eq-same p) in
     let lives : (q : Pid) → pid_eq p q ≡ false → next.processes q ≡ s.processes q = λ q off. (sent_leaves u d.q).0 q ∙ ap (λ (g : Bool). if g then Some (Alive d.pz) else s.processes q) off in
-    let processes : (q : Pid) → pid_eq p q ≡ false → on.processes q ≡ l.processes q = λ q off. placed_processes set d.o q ∙ ap (λ (g : Bool). if g then Some (with_queue d.z h.queue) else l.processes q) off in
-    let records : (q : Pid) → pid_eq p q ≡ false → (with_here k0 p d.z).records q ≡ k.records q = λ q off. ap (λ (g : Bool). if g then Some (Record.Here d.z) else k.records q) off in
-    let keeps : is_server p ≡ true → (with_here k0 p d.z).records p ≡ k.records p = λ server. absurd (false≢true (sym (not_server p h.process) ∙ server)) in
+    let residents : (q : Pid) → pid_eq p q ≡ false → resident_at on q ≡ resident_at l q =
+    λ q off. resident_same l on q (placed_processes set d.o q ∙ ap (λ (g : Bool). if g then Some (with_queue d.z h.queue) else l.processes q) off) (board_of set d.o) (manager_of set d.o) in
+    let records : (q : Pid) → pid_eq p q ≡ false → (with_here k0 p d.z).records q ≡ k.records q = λ q off. ap (λ (g : Bool). if g then Some (Record.Here (Resident.Process d.z)) else k.records q) off in
     turns_row b m pt l k y w c (record {
       label = e;
       next = next;
@@ -230,32 +244,21 @@ served_row b m pt l k y w c h d =
       outcome = here_outcome b m pt l k y w h (Some (rule.says e ∷ rule_routed d.o)) d.outcome;
       fresh = d.fresh;
       plain = d.plain;
-      mine = λ off same holds. here_known on p (pt.view.queue m p) (pt.view.held m p) d.z h.queue ((with_here k0 p d.z).records p) (pt.view.known m p)
-          (ap (λ (g : Bool). if g then Some (Record.Here d.z) else k.records p) (pid_eq-same p)) h.known
+      mine = λ same holds. here_known on p (pt.view.queue m p) (pt.view.held m p) d.z h.queue ((with_here k0 p d.z).records p) (pt.view.known m p) (not_server p h.process)
+          (ap (λ (g : Bool). if g then Some (Record.Here (Resident.Process d.z)) else k.records p) (pid_eq-same p)) h.known
           (placed_processes set d.o p ∙ ap (λ (g : Bool). if g then Some (with_queue d.z h.queue) else l.processes p) (pid_eq-same p))
           (map_same l.bag on.bag (pt.view.queue m p) same ∙ h.waits ∙ ap (map Some) (sym d.queue));
       leaves = search (
-        (placed_leaves set d.o).0,
+        placed_leaves set d.o,
         (sent_leaves u d.q).2,
         (sent_leaves u d.q).1,
         lives,
         ap kernel.why_ended alive ∙ sym (ap kernel.why_ended h.life),
         ap (λ (o : Option Life). blocks_of (kernel.alive o)) alive ∙ ap (λ (n : ℕ). n / 256) d.memory ∙ ap (λ (o : Option Life). blocks_of (kernel.alive o)) (sym h.life),
-        processes,
+        residents,
+        same_manager l on (manager_of set d.o),
         λ (j : MsgId). placed_bag set (placed.without_message l y.id) d.o j refl,
-        board_of set d.o,
-        manager_of set d.o,
         records,
-        c.stands.servers ∙ sym ((placed_leaves set d.o).1 m),
-        keeps,
         λ (q : Pid) (is : IsLeft m pt q). here_left pt m p q c.run.based.phased.phases h.known is,
       );
     })
-  where
-    board_of : (n : Placed) (o : Option Message) → (placed.with_sent n o).board ≡ n.board
-    board_of n None = refl
-    board_of n (Some a) = refl
-
-    manager_of : (n : Placed) (o : Option Message) → (placed.with_sent n o).manager ≡ n.manager
-    manager_of n None = refl
-    manager_of n (Some a) = refl

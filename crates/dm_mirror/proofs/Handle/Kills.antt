@@ -31,7 +31,10 @@ use Rattle.dm_mirror.proofs.Follow.Fronts.{front_gone, elsewhere_apart}
 pub use Rattle.dm_mirror.proofs.Deliver.Moves.{messages_push as last_message}
 use Rattle.dm_kernel.specs.Burying as burying
 use Rattle.dm_mirror.proofs.Preds.{forgotten_stand, none_kept, others_kept}
+use Rattle.dm_mirror.proofs.Residents.{resident_same, same_manager, same_system}
+use Rattle.dm_mirror.proofs.Names.{AreMessages, Resident, resident_at}
 use Rattle.dm_mirror.proofs.Buries.{absent_from, bury_messages, buries_may, machine_buries, many_buries, preds_are, rule_buries, untold_from}
+pub use Rattle.dm_places.proofs.Any.AnyGroup.{no_server as child_off}
 
 -- A process that is here is killed: it ends, and its queue is dropped.
 
@@ -128,6 +131,7 @@ kill_row b m pt l k y c h =
     let others_known : (q : Pid) → pid_eq p q ≡ false → g.next.view.known m q ≡ pt.view.known m q = λ q off. views.known m q (right_off (m == m) (pid_eq p q) off) ∙ record_others pt.view.known m p q view.Unknown off in
     let others_live : (q : Pid) → pid_eq p q ≡ false → g.next.kernel.processes q ≡ s.processes q = λ q off. kernels.life q off ∙ ap (λ (d : Bool). if d then Some (Ended Why.Killed) else s.processes q) off in
     let others_placed : (q : Pid) → pid_eq p q ≡ false → g.placed.processes q ≡ l.processes q = λ q off. bags.process q off ∙ ap (λ (d : Bool). if d then None else l.processes q) off in
+    let stays_resident : (q : Pid) → pid_eq p q ≡ false → resident_at g.placed q ≡ resident_at l q = λ q off. resident_same l g.placed q (others_placed q off) bags.board bags.manager in
     let left : (q : Pid) → IsLeft m pt q → pid_eq p q ≡ false = λ q is. here_left pt m p q c.run.based.phased.phases h.known is in
     let there : is_some (s.processes p) ≡ true = ap is_some h.life in
     let taken = taken_changed pt g.next m p kernels.machines kernels.made (c.made.home p there) (c.made.first p there) (c.made.below p there)
@@ -167,19 +171,18 @@ kill_row b m pt l k y c h =
             queue = λ q off. views.lists (Queue m q) (queue_of_others m p q off);
             held = λ q off. views.held m q;
             known = others_known;
-            processes = others_placed;
+            residents = stays_resident;
+            system = same_manager l g.placed bags.manager;
             notes = λ q off. bags.notes q;
             bag = λ q j off least. bags.bag j (Queue m q) (queue_of_others m p q off) least ∙ kept (Queue m q) j (queue_apart m m q) least;
             holds = λ q j off least. bags.bag j (Held m q) refl least ∙ kept (Held m q) j (held_apart m m q) least;
-            mine = λ off. ended_known g.placed p (g.next.view.queue m p) (g.next.view.held m p) (end.records p) (g.next.view.known m p)
+            mine = ended_known g.placed p (g.next.view.queue m p) (g.next.view.held m p) (end.records p) (g.next.view.known m p)
                 (ap (λ (d : Bool). if d then None else k.records p) (pid_eq-same p)) known;
-            keeps = λ server. absurd (false≢true (sym (not_server p h.process) ∙ server));
           }) c.stands
           (ap (without p) c.stands.ring ∙ sym (g.ring ∙ machine_self pt.view.ring m (without p (pt.view.ring m))))
           (ap (map g.placed.bag) (views.lists (Inbox m) refl ∙ box) ∙ map_same l.bag g.placed.bag c.ids behind ∙ c.others)
           (c.stands.made ∙ sym (kernels.made m))
           (room_released k.room (room_of (slice_get b.machines m)) before now (length h.x.memory / 256) c.stands.room slots blocks)
-          (c.stands.servers ∙ (λ n. if m == 0 then Some (record { board = sym bags.board n; manager = sym bags.manager n }) else None))
           (record {
             same = λ q. elim (cases_Bool (pid_eq p q)) [
               | inl same ↦ subst (λ (r : Pid). without_preds k.preds p r ≡ g.next.view.preds m r) (pid_eq-is p q same) (none_kept k.preds p p (pid_eq-same p) ∙ sym (g.preds ∙ record_self pt.view.preds m p nobody (pid_eq-same p)))
@@ -197,7 +200,8 @@ kill_row b m pt l k y c h =
         λ (n : ℕ) (q : Pid) (off : n ≢ m). views.preds n q (left_off (m == n) (pid_eq p q) (eq_off m n off)) ∙ record_off pt.view.preds m n p q nobody off,
         λ (n : ℕ) (q : Pid) (off : n ≢ m). views.lists (Queue n q) (left_off (m == n) (pid_eq p q) (eq_off m n off)),
         λ (n : ℕ) (q : Pid) (off : n ≢ m) (has : has_process (pt.view.known n q) ≡ true). left q (Elsewhere n off has),
-        others_placed,
+        stays_resident,
+        same_manager l g.placed bags.manager,
         others_live,
         stays,
       );
@@ -212,7 +216,7 @@ kill_row b m pt l k y c h =
       still = drops_still ids;
       over = OneEnds m p Why.Killed refl refl (one_ends s g.next.kernel p Why.Killed others_live life);
       count = ap (λ (j : ℕ). k.sent + j) (sym (many_buries k0 p tos));
-      moving = λ q is. let off = left q (Moves is) in (others_placed q off, ap (λ (d : Bool). if d then None else k.records q) off, bags.notes q);
+      moving = λ q is. let off = left q (Moves is) in (stays_resident q off, ap (λ (d : Bool). if d then None else k.records q) off, bags.notes q);
       own = λ j a none there. bags.own j a none (own_kept b m pt l k y w c on None (λ n. refl) (λ z f. absurd (cc)) j a none there);
       own_back = λ j a none there. own_back l on i None (λ n. refl) (λ z f. absurd (cc)) j a none (bags.own_back j a none there);
     }
@@ -229,7 +233,7 @@ kernel_is s p m num home below = ap (λ (c : Bool). c && nat_lt p.home s.machine
 
 -- the kernel is at home here
 pub kernel_home : (b : Boot) (m : ℕ) (pt : Point) (l : Placed) (k : KernelState) (y : Message) (w : PlainWhat) → Taking b m pt l k y w → (y.to.pid.num == 0) ≡ true → y.to.pid.home ≡ m
-kernel_home b m pt l k y w c num = home_of b m pt y.id (plainly y w) (ap (λ (d : Bool). d || is_server y.to.pid) num) c.front
+kernel_home b m pt l k y w c num = home_of b m pt y.id (plainly y w) num c.front
 
 pub create_turn : (b : Boot) (k0 : KernelState) (y : Message) (image : ℕ) (links : _) (g : BootImage) (c : Bool) → (y.to.pid.num == 0) ≡ true → y.what ≡ What.Create image links → slice_get b.images image ≡ Some g → machine.has_room k0.room g.blocks ≡ c
     → handles b k0 y ≡ makes b k0 y links.items g c
@@ -269,13 +273,9 @@ no_room_row b m pt l k y image ls g c num found none =
       outcome = grind (arith, nat_tests, rule_to_kernel);
       fresh = λ z is. let same : a ≡ z = cc in ap (λ (n : Message). s.bag n.id) (sym same) ∙ bag_none seen.r seen.e s (answer_id y.id) (bag.fresh (answer_id y.id) refl) seen.sound.entered;
       plain = λ z is. let same : a ≡ z = cc in ap (λ (n : Message). is_some (plain_message n)) (sym same);
-      mine = λ off same holds. known_on l on p (pt.view.queue m p) (pt.view.held m p) (pt.view.known m p) (k.records p) refl refl same holds (c.stands.known p off);
-      leaves = search (c.stands.servers);
+      mine = λ same holds. known_on l on p (pt.view.queue m p) (pt.view.held m p) (pt.view.known m p) (k.records p) (same_manager l on refl) refl refl same holds (c.stands.known p);
+      leaves = search (same_manager l on refl);
     })
-
--- a process that is made is no server
-pub child_off : (m n : ℕ) → is_server (pid_of m (first_number + n)) ≡ false
-child_off m n = grind (arith, nat_tests)
 
 pub valid_at : (images : List BootImage) (n : ℕ) (g : BootImage) → slice_get images n ≡ Some g → images_are_valid images ≡ true → image_is_valid g ≡ true
 valid_at [] n g e h = cc
@@ -297,11 +297,12 @@ user_row b m pt l k y code channel bytes ls c h =
     let z = queued h.x y in
     let xs = pt.view.queue m p ++ i ∷ [] in
     let taken = taken_same pt next m refl (λ n. refl) (λ q. refl) in
-    let sets : (q : Pid) → pid_eq p q ≡ false → (with_here k0 p z).records q ≡ k.records q = λ q off. ap (λ (c : Bool). if c then Some (Record.Here z) else k.records q) off in
+    let sets : (q : Pid) → pid_eq p q ≡ false → (with_here k0 p z).records q ≡ k.records q = λ q off. ap (λ (c : Bool). if c then Some (Record.Here (Resident.Process z)) else k.records q) off in
     let queues : (q : Pid) → pid_eq p q ≡ false → next.view.queue m q ≡ pt.view.queue m q = λ q off. record_others pt.view.queue m p q xs off in
     let mine : KnownStands l p (next.view.queue m p) (next.view.held m p) (next.view.known m p) ((with_here k0 p z).records p) =
-    grind (arith, nat_tests, here_known, pid_eq-same, record_self, last_message) in
-    let keeps : is_server p ≡ true → (with_here k0 p z).records p ≡ k.records p = λ server. absurd (false≢true (sym (not_server p h.process) ∙ server)) in
+    here_known l p (next.view.queue m p) (next.view.held m p) z h.queue ((with_here k0 p z).records p) (next.view.known m p) (not_server p h.process)
+    (ap (λ (c : Bool). if c then Some (Record.Here (Resident.Process z)) else k.records p) (pid_eq-same p)) h.known h.placed
+    (subst (λ (js : List MsgId). AreMessages l.bag js (h.x.queue ++ y ∷ [])) (sym (record_self pt.view.queue m p xs (pid_eq-same p))) (last_message l.bag (pt.view.queue m p) h.x.queue i y h.waits c.there)) in
     -- the view's queue
     let told_is : view.receiver_of (pt.view.told y.id) ≡ Some y.to.pid = ap view.receiver_of c.front.told_is ∙ ap Some (told_receiver b m pt y.id (plainly y w) c.front) in
     record {
@@ -315,17 +316,17 @@ user_row b m pt l k y code channel bytes ls c h =
       placed = l;
       mirrors = mirrors_view pt.kernel pt.view u pt.addresses l refl c.mirrors;
       kernel = stands_set b pt next l l m k (with_here k0 p z) p
-          (search (sets, queues, mine, keeps)) c.stands
+          (search (sets, queues, same_system l, mine)) c.stands
           c.stands.ring
           (ap (map l.bag) (machine_self pt.view.inbox m (without_front i (pt.view.inbox m)) ∙ front_gone i c.ids (pt.view.inbox m) c.box) ∙ c.others)
           c.stands.made
-          (room_stays k.room _ _ _ taken c.stands.room) c.stands.servers c.stands.preds;
-      elsewhere = search (machine_off, pt.view.inbox, record_off);
+          (room_stays k.room _ _ _ taken c.stands.room) c.stands.preds;
+      elsewhere = search (machine_off, pt.view.inbox, record_off, same_system l);
       sent = tt;
       still = refl;
       over = NoneEnds refl (λ q. refl);
       count = refl;
-      moving = λ q is. (refl, ap (λ (d : Bool). if d then Some (Record.Here z) else k.records q) (here_left pt m p q c.run.based.phased.phases h.known (Moves is)), refl);
+      moving = λ q is. (refl, ap (λ (d : Bool). if d then Some (Record.Here (Resident.Process z)) else k.records q) (here_left pt m p q c.run.based.phased.phases h.known (Moves is)), refl);
       own = λ j a none there. there;
       own_back = λ j a none there. there;
     }

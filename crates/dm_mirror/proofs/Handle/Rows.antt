@@ -2,7 +2,7 @@
 use Rattle.dm_mirror.proofs.Names.{◌≡◌, ◌≢◌, ℕ, ◌≤◌, ◌==◌, Bool, true, false, List, [], ◌∷◌, map, refl, ap, ◌∙◌, sym, subst, inl, inr, is_some, arith, if◌then◌else◌, Option, None, Some, cases_Bool, false≢true, Pid, pid_eq, MsgId, nat_tests}
 use Rattle.dm_mirror.proofs.Names.{Message, id_eq, PlainWhat, plain_message, Boot, Label, Life, OneKernel, id_eq-is, pid_eq-is, Line, Point, after, Taken, blocks_of, taken_by, takes_room, without_front, Spot, Queue, act_of, Held, Inbox}
 use Rattle.dm_mirror.proofs.Names.{times, standing, View, Here, handled, is_kernels, Phase, Rests, is_away, is_here, knows, rests_here, InPhases, is_server, StepNeeds, Placed, Mirrors, placed_step, mirrors_view, moves_label, plainly}
-use Rattle.dm_mirror.proofs.Names.{placed_follows, handles, KernelState, KnownStands, servers_at, begun, seen, RoomStands, room_of, slice_get, taken_at, addresses_by, PredsStand}
+use Rattle.dm_mirror.proofs.Names.{placed_follows, handles, KernelState, KnownStands, resident_at, begun, seen, RoomStands, room_of, slice_get, taken_at, addresses_by, PredsStand}
 use Rattle.dm_places.specs.PlacedStep.{with_sent, without_message}
 use Rattle.dm_onekernel.specs.Step as kernel
 use Rattle.dm_rule.specs.Rule as rule
@@ -13,6 +13,7 @@ use Rattle.dm_mirror.proofs.Rooms.{taken_same}
 use Rattle.dm_mirror.proofs.Turning.{NoneEnds, spared, is_elsewhere, has_process, is_moving, routed, rule_routed, IsSent, Row, Sends}
 use Rattle.dm_mirror.proofs.Kernel.Sets.{away_process as has_none}
 use Rattle.dm_mirror.proofs.Follow.Fronts.{front_gone, elsewhere_apart}
+use Rattle.dm_mirror.proofs.Residents.{SameSystem}
 
 -- where the head of the turn, a label and another view lead
 abbrev pub seen_point : Point → ℕ → Label → OneKernel → View → Point
@@ -38,7 +39,7 @@ mirrors_one pt m e s v l placed step is needs placed_is h =
 pub standing_begun : (pt : Point) (m : ℕ) (i : MsgId) (s : Spot) → standing (begun pt m).view i s ≡ standing pt.view i s
 standing_begun pt m i s = grind (arith, nat_tests)
 
--- a process that a turn on machine m leaves as it is: another machine has it, holds it back or expects it, or it leaves or comes on
+-- a process or a server that a turn on machine m leaves as it is: another machine has it, holds it back or expects it, or it leaves or comes on
 -- machine m
 pub data IsLeft (m : ℕ) (pt : Point) (q : Pid) : Type 0 where
   Elsewhere : (n : ℕ) → (apart : n ≢ m) → (has : has_process (pt.view.known n q) ≡ true) → IsLeft m pt q
@@ -73,11 +74,10 @@ pub record RowLeaves (m : ℕ) (pt : Point) (l : Placed) (k : KernelState) (rest
   pub blocks : blocks_of (kernel.alive (next.processes process)) ≡ blocks_of (kernel.alive (pt.kernel.processes process))
   pub ended : kernel.why_ended (next.processes process) ≡ kernel.why_ended (pt.kernel.processes process)
   -- the one with places
-  pub processes : (q : Pid) → pid_eq process q ≡ false → placed.processes q ≡ l.processes q
+  pub residents : (q : Pid) → pid_eq process q ≡ false → resident_at placed q ≡ resident_at l q
+  pub system : SameSystem l placed
   pub notes : (q : Pid) → placed.notes q ≡ l.notes q
   pub bag : (j : MsgId) → placed.bag j ≡ (with_sent (without_message l i) route).bag j
-  pub board : m ≢ 0 → placed.board ≡ l.board
-  pub manager : m ≢ 0 → placed.manager ≡ l.manager
   -- the machine's
   pub here : state.here ≡ k.here
   pub records : (q : Pid) → pid_eq process q ≡ false → state.records q ≡ k.records q
@@ -86,12 +86,10 @@ pub record RowLeaves (m : ℕ) (pt : Point) (l : Placed) (k : KernelState) (rest
   pub count : state.made ≡ k.made
   pub sent : state.sent ≡ k.sent
   pub room : state.room ≡ k.room
-  pub servers : state.servers ≡ servers_at placed m
   pub preds : state.preds ≡ k.preds
   pub over : state.over ≡ k.over
-  pub keeps : is_server process ≡ true → state.records process ≡ k.records process
   -- the others stay
-  pub left : (q : Pid) → IsLeft m pt q → (placed.processes q ≡ l.processes q) × (next.processes q ≡ pt.kernel.processes q) × (state.records q ≡ k.records q)
+  pub left : (q : Pid) → IsLeft m pt q → (resident_at placed q ≡ resident_at l q) × (next.processes q ≡ pt.kernel.processes q) × (state.records q ≡ k.records q)
 
 pub record Labelled (b : Boot) (m : ℕ) (pt : Point) (l : Placed) (k : KernelState) (y : Message) (w : PlainWhat) (c : Taking b m pt l k y w) : Type 0 where
   pub label : Label
@@ -109,7 +107,7 @@ pub record Labelled (b : Boot) (m : ℕ) (pt : Point) (l : Placed) (k : KernelSt
   pub outcome : rule.handles b pt m y.id (plainly y w) ≡ Some (rule.says label ∷ rule_routed route)
   pub fresh : (a : Message) → route ≡ Some a → pt.kernel.bag a.id ≡ None
   pub plain : (a : Message) → route ≡ Some a → is_some (plain_message a) ≡ true
-  pub mine : is_server process ≡ false → ((j : MsgId) → 1 ≤ times j (pt.view.queue m process) → placed.bag j ≡ l.bag j) → ((j : MsgId) → 1 ≤ times j (pt.view.held m process) → placed.bag j ≡ l.bag j)
+  pub mine : ((j : MsgId) → 1 ≤ times j (pt.view.queue m process) → placed.bag j ≡ l.bag j) → ((j : MsgId) → 1 ≤ times j (pt.view.held m process) → placed.bag j ≡ l.bag j)
       → KnownStands placed process (pt.view.queue m process) (pt.view.held m process) (pt.view.known m process) (state.records process)
   pub leaves : RowLeaves m pt l k c.rest y.id process next placed state route
 
@@ -169,7 +167,7 @@ turns_row b m pt l k y w c h =
     let behind : (j : MsgId) → 1 ≤ times j c.ids → h.placed.bag j ≡ l.bag j = kept_behind b m pt l k y w c h.placed h.route h.leaves.bag fresh in
     let waits : (q : Pid) (j : MsgId) → 1 ≤ times j (pt.view.queue m q) → h.placed.bag j ≡ l.bag j = λ q j least. kept (Queue m q) j (queue_apart m m q) least in
     let holds : (q : Pid) (j : MsgId) → 1 ≤ times j (pt.view.held m q) → h.placed.bag j ≡ l.bag j = λ q j least. kept (Held m q) j (held_apart m m q) least in
-    let mine = λ (off : is_server h.process ≡ false). h.mine off (waits h.process) (holds h.process) in
+    let mine = h.mine (waits h.process) (holds h.process) in
     record {
       state = h.state;
       says = Line.Label h.label ∷ [];
@@ -181,17 +179,18 @@ turns_row b m pt l k y w c h =
       placed = h.placed;
       mirrors = mirrors;
       kernel = stands_set b pt next l h.placed m k h.state h.process
-          (search (h.leaves.here, h.leaves.records, h.leaves.processes, h.leaves.notes, waits, holds, mine, h.leaves.keeps)) stands
+          (search (h.leaves.here, h.leaves.records, h.leaves.residents, h.leaves.system, h.leaves.notes, waits, holds, mine)) stands
           (h.leaves.ring ∙ stands.ring)
           (ap (map h.placed.bag) (machine_self pt.view.inbox m (without_front y.id (pt.view.inbox m)) ∙ front_gone y.id c.ids (pt.view.inbox m) c.box)
           ∙ map_same l.bag h.placed.bag c.ids behind ∙ c.others ∙ ap (map Some) (sym h.leaves.inbox))
           (h.leaves.count ∙ stands.made ∙ sym (h.leaves.made m))
           (subst (λ (t : Taken). RoomStands t (room_of (slice_get b.machines m)) (taken_at next m next.kernel.machines)) (sym h.leaves.room) (subst (RoomStands k.room (room_of (slice_get b.machines m))) (sym taken) stands.room))
-          h.leaves.servers (subst (PredsStand b (pt.view.preds m)) (sym h.leaves.preds) stands.preds);
+          (subst (PredsStand b (pt.view.preds m)) (sym h.leaves.preds) stands.preds);
       elsewhere = search (
         machine_off,
         h.leaves.made,
         h.leaves.notes,
+        h.leaves.system,
         λ (n : ℕ) (q : Pid) (off : n ≢ m) (has : has_process (pt.view.known n q) ≡ true). (h.leaves.left q (Elsewhere n off has)).0,
         λ (n : ℕ) (q : Pid) (off : n ≢ m) (has : has_process (pt.view.known n q) ≡ true). (h.leaves.left q (Elsewhere n off has)).1,
         λ (i : MsgId) (s : Spot) (is : is_elsewhere m s ≡ true) (least : 1 ≤ standing (begun pt m).view i s). kept s i (elsewhere_apart m s is) (subst (λ (n : ℕ). 1 ≤ n) (standing_begun pt m i s) least),

@@ -3,8 +3,8 @@ use Rattle.dm_mirror.proofs.Names.{◌≡◌, ◌≢◌, ℕ, ◌+◌, ◌≤◌
 use Rattle.dm_mirror.proofs.Names.{nat_tests, PlainMessage, PlainWhat, plain_message, plain_what, Boot, IsValid, Label, OneKernel, bind, Step, entry, reception, after_step, id_eq-is, id_eq-same, Point, outcome, Spot, Queue, Held, Inbox}
 use Rattle.dm_mirror.proofs.Names.{times, standing, StandsAsBag, StandsNowhere, StandsOutside, StandsRight, is_kernels, stands_right, kernels_fresh, not_kernels, Sane, StandsAsBag-elsewhere, StandsAsBag-one, front, OwnTold, IsQueued, Run}
 use Rattle.dm_mirror.proofs.Names.{Front, Placed, Mirrors, MirrorsKernel, parts, there_of, plainly, plainly_is, handles, KernelState, Turned, turns, MadeStands, AllOwnStand, AreMessages, KernelStands, ◌==◌, ◌&&◌, [], slice_get, pid_eq}
-use Rattle.dm_mirror.proofs.Names.{room_of, pid_eq-is, taken_at, at_machine, at_record, Known, is_server, KnownStands, RoomStands, servers_at, ◌||◌, length, switchboard, manager, kernel_handles, board_handles, manager_handles}
-use Rattle.dm_mirror.proofs.Names.{process_handles, not_true, PlainProcess, KernelKnown, ended_handles, server_at, PredsStand}
+use Rattle.dm_mirror.proofs.Names.{room_of, pid_eq-is, taken_at, at_machine, at_record, Known, is_server, KnownStands, RoomStands, ◌||◌, length, switchboard, manager, kernel_handles, board_handles, manager_handles, resident_at}
+use Rattle.dm_mirror.proofs.Names.{process_handles, not_true, PlainProcess, KernelKnown, ended_handles, PredsStand, Board, Managing, Record, Resident}
 pub use Rattle.dm_rulelaws.proofs.Goes.Process.{no_server}
 use Rattle.dm_rule.proofs.Names.{Part}
 use Rattle.dm_places.specs.PlacedStep.{with_sent, without_message}
@@ -18,8 +18,10 @@ use Rattle.dm_onekernel.specs.Manager as manage
 use Rattle.dm_onekernel.specs.Switchboard as board
 pub use Rattle.std.proofs.lemmas.Option.{same_Some as some_same}
 pub use Rattle.dm_mirror.proofs.Kernel.Sets.{known_at as known_on, map_same}
+use Rattle.dm_mirror.proofs.Residents.{SameSystem}
 pub use Rattle.dm_mirror.proofs.Join.{some_plain as some_of}
 pub use Rattle.dm_mirror.proofs.End.Servers.{off as eq_off}
+pub use Rattle.dm_world.proofs.Alone.{other_machine as machine_off}
 
 -- the message at the front
 pub record FrontOf (bag : MsgId → Option Message) (i : MsgId) (is : List MsgId) (ms : List Message) : Type 0 where
@@ -40,37 +42,31 @@ pub record Sets (pt next : Point) (l placed : Placed) (m : ℕ) (k s : KernelSta
   pub queue : (q : Pid) → pid_eq p q ≡ false → next.view.queue m q ≡ pt.view.queue m q
   pub held : (q : Pid) → pid_eq p q ≡ false → next.view.held m q ≡ pt.view.held m q
   pub known : (q : Pid) → pid_eq p q ≡ false → next.view.known m q ≡ pt.view.known m q
-  pub processes : (q : Pid) → pid_eq p q ≡ false → placed.processes q ≡ l.processes q
+  pub residents : (q : Pid) → pid_eq p q ≡ false → resident_at placed q ≡ resident_at l q
+  pub system : SameSystem l placed
   pub notes : (q : Pid) → pid_eq p q ≡ false → placed.notes q ≡ l.notes q
   pub bag : (q : Pid) (j : MsgId) → pid_eq p q ≡ false → 1 ≤ times j (pt.view.queue m q) → placed.bag j ≡ l.bag j
   pub holds : (q : Pid) (j : MsgId) → pid_eq p q ≡ false → 1 ≤ times j (pt.view.held m q) → placed.bag j ≡ l.bag j
   -- what is known of it then
-  pub mine : is_server p ≡ false → KnownStands placed p (next.view.queue m p) (next.view.held m p) (next.view.known m p) (s.records p)
-  pub keeps : is_server p ≡ true → s.records p ≡ k.records p
+  pub mine : KnownStands placed p (next.view.queue m p) (next.view.held m p) (next.view.known m p) (s.records p)
 
-known_sets : (b : Boot) (pt next : Point) (l placed : Placed) (m : ℕ) (k s : KernelState) (p q : Pid) → is_server q ≡ false → Sets pt next l placed m k s p → KernelStands b pt l m k → KnownStands placed q (next.view.queue m q) (next.view.held m q) (next.view.known m q) (s.records q)
-known_sets b pt next l placed m k s p q server w h = elim (cases_Bool (pid_eq p q)) [
+known_sets : (b : Boot) (pt next : Point) (l placed : Placed) (m : ℕ) (k s : KernelState) (p q : Pid) → Sets pt next l placed m k s p → KernelStands b pt l m k → KnownStands placed q (next.view.queue m q) (next.view.held m q) (next.view.known m q) (s.records q)
+known_sets b pt next l placed m k s p q w h = elim (cases_Bool (pid_eq p q)) [
   | inl same ↦
       let e : p ≡ q = pid_eq-is p q same in
-      subst (λ (z : Pid). KnownStands placed z (next.view.queue m z) (next.view.held m z) (next.view.known m z) (s.records z)) e (w.mine (ap is_server e ∙ server))
+      subst (λ (z : Pid). KnownStands placed z (next.view.queue m z) (next.view.held m z) (next.view.known m z) (s.records z)) e w.mine
   | inr apart ↦
       let on = known_on l placed q (pt.view.queue m q) (pt.view.held m q) (pt.view.known m q) (k.records q)
-      (w.processes q apart) (w.notes q apart) (λ j least. w.bag q j apart least) (λ j least. w.holds q j apart least) (h.known q server) in
+      w.system (w.residents q apart) (w.notes q apart) (λ j least. w.bag q j apart least) (λ j least. w.holds q j apart least) (h.known q) in
       subst (KnownStands placed q (next.view.queue m q) (next.view.held m q) (next.view.known m q)) (sym (w.records q apart))
       (subst (λ (z : Known). KnownStands placed q (next.view.queue m q) (next.view.held m q) z (k.records q)) (sym (w.known q apart))
       (subst (λ (z : List MsgId). KnownStands placed q (next.view.queue m q) z (pt.view.known m q) (k.records q)) (sym (w.held q apart))
       (subst (λ (z : List MsgId). KnownStands placed q z (pt.view.held m q) (pt.view.known m q) (k.records q)) (sym (w.queue q apart)) on)))
 ]
 
-servers_set : (b : Boot) (pt next : Point) (l placed : Placed) (m : ℕ) (k s : KernelState) (p q : Pid) → is_server q ≡ true → Sets pt next l placed m k s p → KernelStands b pt l m k → s.records q ≡ None
-servers_set b pt next l placed m k s p q server w h = grind (arith, nat_tests, pid_eq-is)
-
 pub stands_set : (b : Boot) (pt next : Point) (l placed : Placed) (m : ℕ) (k s : KernelState) (p : Pid) → Sets pt next l placed m k s p → KernelStands b pt l m k → s.ring ≡ next.view.ring m → AreMessages placed.bag (next.view.inbox m) s.inbox
-    → s.made ≡ next.kernel.made m → RoomStands s.room (room_of (slice_get b.machines m)) (taken_at next m next.kernel.machines) → s.servers ≡ servers_at placed m → PredsStand b (next.view.preds m) s.preds → KernelStands b next placed m s
-stands_set b pt next l placed m k s p w h ring inbox made room servers preds = search (w.here ∙ h.here, known_sets, servers_set)
-
-pub machine_off : {X : Type 0} (f : ℕ → X) (m n : ℕ) (x : X) → n ≢ m → at_machine f m x n ≡ f n
-machine_off f m n x apart = ap (λ (c : Bool). if c then x else f n) (eq_off m n apart)
+    → s.made ≡ next.kernel.made m → RoomStands s.room (room_of (slice_get b.machines m)) (taken_at next m next.kernel.machines) → PredsStand b (next.view.preds m) s.preds → KernelStands b next placed m s
+stands_set b pt next l placed m k s p w h ring inbox made room preds = search (w.here ∙ h.here, known_sets)
 
 pub record_self : {X : Type 0} (f : ℕ → Pid → X) (m : ℕ) (p : Pid) (x : X) → pid_eq p p ≡ true → at_record f m p x m p ≡ x
 record_self f m p x same = ap (λ (c : Bool). if c && pid_eq p p then x else f m p) (eq_self m) ∙ ap (λ (c : Bool). if c then x else f m p) same
@@ -225,22 +221,16 @@ to_known b s y r num is = ap (λ (c : Bool). if c then kernel_handles b s y y.wh
 pub to_process : (b : Boot) (s : KernelState) (y : Message) → IsProcess y.to.pid → handles b s y ≡ process_handles s y (s.records y.to.pid)
 to_process b s y h = to_known b s y (s.records y.to.pid) h.number refl
 
--- the servers have no records
-pub to_board : (b : Boot) (s : KernelState) (y : Message) → (y.to.pid.num == 0) ≡ false → s.records y.to.pid ≡ None → pid_eq y.to.pid switchboard ≡ true → handles b s y ≡ board_handles s y s.servers
-to_board b s y num none one = to_known b s y None num none ∙ ap (λ (c : Bool). if c then board_handles s y s.servers else if pid_eq y.to.pid manager then manager_handles s y s.servers else ended_handles s y y.what) one
+-- a server that is here
+pub to_board : (b : Boot) (s : KernelState) (y : Message) (v : Board) → (y.to.pid.num == 0) ≡ false → s.records y.to.pid ≡ Some (Record.Here (Resident.Board v)) → handles b s y ≡ board_handles s y v
+to_board b s y v num is = to_known b s y (Some (Record.Here (Resident.Board v))) num is
 
-pub to_manager : (b : Boot) (s : KernelState) (y : Message) → (y.to.pid.num == 0) ≡ false → s.records y.to.pid ≡ None → pid_eq y.to.pid switchboard ≡ false → pid_eq y.to.pid manager ≡ true → handles b s y ≡ manager_handles s y s.servers
-to_manager b s y num none off is =
-    to_known b s y None num none ∙ ap (λ (c : Bool). if c then board_handles s y s.servers else if pid_eq y.to.pid manager then manager_handles s y s.servers else ended_handles s y y.what) off
-    ∙ ap (λ (c : Bool). if c then manager_handles s y s.servers else ended_handles s y y.what) is
+pub to_manager : (b : Boot) (s : KernelState) (y : Message) (v : Managing) → (y.to.pid.num == 0) ≡ false → s.records y.to.pid ≡ Some (Record.Here (Resident.Manager v)) → handles b s y ≡ manager_handles s y v
+to_manager b s y v num is = to_known b s y (Some (Record.Here (Resident.Manager v))) num is
 
--- nor has a process that has ended
-pub to_ended : (b : Boot) (s : KernelState) (y : Message) → IsProcess y.to.pid → s.records y.to.pid ≡ None → handles b s y ≡ ended_handles s y y.what
-to_ended b s y h none = to_known b s y None h.number none ∙ no_server (pid_eq y.to.pid switchboard) (pid_eq y.to.pid manager) _ _ _ h.no_board h.no_manager
-
--- a server is known on machine 0
-pub server_here : (b : Boot) (pt : Point) (m : ℕ) (p : Pid) → Run b pt → m ≡ 0 → is_server p ≡ true → pt.view.known m p ≡ Known.Here
-server_here b pt m p run zero_ server = run.based.known.server m p server ∙ ap server_at zero_
+-- where nothing is known of it, it has ended
+pub to_ended : (b : Boot) (s : KernelState) (y : Message) → (y.to.pid.num == 0) ≡ false → s.records y.to.pid ≡ None → handles b s y ≡ ended_handles s y y.what
+to_ended b s y num none = to_known b s y None num none
 
 pub rule_to_kernel : (b : Boot) (pt : Point) (m : ℕ) (i : MsgId) (x : PlainMessage) → (x.to.num == 0) ≡ true → rule.handles b pt m i x ≡ rule.kernel_handles b pt m i x.what
 rule_to_kernel b pt m i x num = grind (arith, nat_tests)

@@ -2,7 +2,7 @@
 -- behind them.
 use Rattle.dm_mirror.proofs.Names.{◌≡◌, ◌≢◌, ℕ, ◌≤◌, ◌==◌, ◌&&◌, not, Bool, true, false, List, [], ◌∷◌, map, refl, ap, ◌∙◌, sym, subst, inl, inr, arith, is_some, if◌then◌else◌, slice_get, Option, None, Some, cases_Bool, nat_tests, Pid}
 use Rattle.dm_mirror.proofs.Names.{pid_eq, Message, MsgId, plain_message, Taken, with_released, Record, Boot, Life, OneKernel, KernelState, room_of, pid_eq-is, Point, Room, taken_at, taken_by, takes_room, blocks_of, Spot, Queue, Held}
-use Rattle.dm_mirror.proofs.Names.{Inbox, times, ids_at, standing, View, Known, Unknown, Here, Frozen, Incoming, Forward, is_away, is_server, Placed, MadeStands, AreMessages, KnownStands, KernelStands, RoomStands, servers_at, ◌/◌, length}
+use Rattle.dm_mirror.proofs.Names.{Inbox, times, ids_at, standing, View, Known, Unknown, Here, Frozen, Incoming, Forward, is_away, is_server, Placed, MadeStands, AreMessages, KnownStands, KernelStands, RoomStands, resident_at, ◌/◌, length, Resident}
 use Rattle.dm_mirror.proofs.Names.{Process, Why, Alive, plain_process, with_queue, id_eq, PlainMessage, Label, bind, id_eq-is, pid_eq-same, Line, moved, after, at_machine, at_record, without, without_front, moved_back, StandsNowhere}
 use Rattle.dm_mirror.proofs.Names.{StandsOutside, StandsRight, serving, handled, is_kernels, Mirrors, MirrorsKernel, placed_step, StepNeeds, mirrors_view, moves_label, placed_follows, ended, HereStands, CanBeCarried, IsSuch, nobody}
 pub use Rattle.dm_rulelaws.proofs.Goes.Turns.{times_self, times_more}
@@ -19,7 +19,9 @@ use Rattle.dm_onekernel.specs.Service as service
 use Rattle.dm_mirror.proofs.Turning.{Elsewhere, is_elsewhere, has_process}
 use Rattle.dm_mirror.proofs.Rooms.{taken_same, taken_changed}
 pub use Rattle.dm_mirror.proofs.End.Servers.{off as eq_apart}
+use Rattle.dm_resident.specs.Residents as residents
 use Rattle.dm_mirror.proofs.Cargoes.{cargo_same}
+use Rattle.dm_mirror.proofs.Residents.{SameSystem, carried_same, here_process, resident_same, same_manager}
 
 -- the queue of process p on machine m
 abbrev pub is_queue_of : ℕ → Pid → Spot → Bool
@@ -100,6 +102,10 @@ leaves_on m t p a b c k l n g h = search (
   placed_leaves_on t p a.view k l n g.placed_ (placed_leaves_from m t p a.view b.view l n g.view h.placed_),
 )
 
+-- what stays of the others
+pub leaves_resident : (t : Spot → Bool) (p : Pid) (v : View) (l placed : Placed) → PlacedLeaves t p v l placed → (q : Pid) → pid_eq p q ≡ false → resident_at placed q ≡ resident_at l q
+leaves_resident t p v l placed h q off = resident_same l placed q (h.process q off) h.board h.manager
+
 -- a process that rests on machine m is away from the others
 abbrev pub IsAway : View → ℕ → Pid → Type 0
 IsAway v m p = (n : ℕ) → n ≢ m → is_away (v.known n p) ≡ true
@@ -123,12 +129,11 @@ elsewhere_of m t p pt next l placed away at off h = record {
   told = h.view.told;
   machines = h.kernel.machines;
   made = λ n apart. h.kernel.made n;
-  process = λ n q apart has. h.placed_.process q (others n q apart (λ a. away_process (pt.view.known n q) a has));
+  resident = λ n q apart has. leaves_resident t p pt.view l placed h.placed_ q (others n q apart (λ a. away_process (pt.view.known n q) a has));
   notes = λ n q apart has. h.placed_.notes q;
   life = λ n q apart has. h.kernel.life q (others n q apart (λ a. away_process (pt.view.known n q) a has));
   bag = λ i s away least. h.placed_.bag i s (off s away) least;
-  board = λ apart. h.placed_.board;
-  manager = λ apart. h.placed_.manager;
+  system = same_manager l placed h.placed_.manager;
 }
   where
     others : (n : ℕ) (q : Pid) → n ≢ m → (is_away (pt.view.known n q) ≡ true → ⊥) → pid_eq p q ≡ false
@@ -150,51 +155,51 @@ map_same f g (i ∷ is) h = λ j. h i (times_self i is) j ∷ (map_same f g is (
 pub messages_on : (f g : MsgId → Option Message) (ids : List MsgId) (ms : List Message) → ((i : MsgId) → 1 ≤ times i ids → g i ≡ f i) → AreMessages f ids ms → AreMessages g ids ms
 messages_on f g ids ms same h = map_same f g ids same ∙ h
 
--- a process stays with its messages, and what is known of it
-module _ (l placed : Placed) (p : Pid) (ids js : List MsgId) (queue : (i : MsgId) → 1 ≤ times i ids → placed.bag i ≡ l.bag i) (held : (i : MsgId) → 1 ≤ times i js → placed.bag i ≡ l.bag i) where
-  here_stays : (x : Process) → placed.processes p ≡ l.processes p → HereStands l p ids x → HereStands placed p ids x
-  here_stays x process h = ((h.0.0, process ∙ h.0.1), messages_on l.bag placed.bag ids x.queue queue h.1)
+such_carried : (l placed : Placed) (cap : ℕ) (o : Option Resident) → SameSystem l placed → IsSuch (CanBeCarried cap l.manager.machines l.manager.images) o → IsSuch (CanBeCarried cap placed.manager.machines placed.manager.images) o
+such_carried l placed cap None same h = h
+such_carried l placed cap (Some r) same h = carried_same l placed cap r same h
 
-  pub known_same : (k : Known) (r : Option machine.KernelKnown) → (has_process k ≡ true → placed.processes p ≡ l.processes p) → (has_process k ≡ true → placed.notes p ≡ l.notes p)
+-- a process or a server stays with its messages, and what is known of it
+module _ (l placed : Placed) (p : Pid) (ids js : List MsgId) (system : SameSystem l placed) (queue : (i : MsgId) → 1 ≤ times i ids → placed.bag i ≡ l.bag i) (held : (i : MsgId) → 1 ≤ times i js → placed.bag i ≡ l.bag i) where
+  pub here_stays : (x : Resident) → resident_at placed p ≡ resident_at l p → HereStands l p ids x → HereStands placed p ids x
+  here_stays x resident h = ((h.0.0, resident ∙ h.0.1), messages_on l.bag placed.bag ids (residents.queue_of x) queue h.1)
+
+  pub known_same : (k : Known) (r : Option machine.KernelKnown) → (has_process k ≡ true → resident_at placed p ≡ resident_at l p) → (has_process k ≡ true → placed.notes p ≡ l.notes p)
       → KnownStands l p ids js k r → KnownStands placed p ids js k r
-  known_same Unknown None process notes h = tt
-  known_same Here (Some (Record.Here x)) process notes h = here_stays x (process refl) h
-  known_same (Frozen to) (Some (Record.Frozen d)) process notes h =
-      record { to = h.to; cargo = cargo_same l placed p (process refl) (notes refl) ∙ h.cargo; here = here_stays d.process (process refl) h.here; held = messages_on l.bag placed.bag js d.held held h.held; whole = h.whole }
-  known_same (Incoming from) (Some (Record.Incoming a)) process notes h =
-      let whole = subst (IsSuch (CanBeCarried a.cap)) (sym (process refl)) h.whole in
-      record { source = h.source; cargo = h.cargo; there = cargo_same l placed p (process refl) (notes refl) ∙ h.there; whole = whole; pieces = h.pieces; held = messages_on l.bag placed.bag js a.held held h.held }
-  known_same (Forward at_ moves) (Some (Record.Forward to n)) process notes h = h
-  known_same k r process notes h = h
+  known_same Unknown None resident notes h = tt
+  known_same Here (Some (Record.Here x)) resident notes h = here_stays x (resident refl) h
+  known_same (Frozen to) (Some (Record.Frozen d)) resident notes h =
+      record { to = h.to; cargo = cargo_same l placed p (resident refl) (notes refl) ∙ h.cargo; here = here_stays d.resident (resident refl) h.here; held = messages_on l.bag placed.bag js d.held held h.held; whole = h.whole }
+  known_same (Incoming from) (Some (Record.Incoming a)) resident notes h =
+      let whole = such_carried l placed a.cap (resident_at placed p) system (subst (IsSuch (CanBeCarried a.cap l.manager.machines l.manager.images)) (sym (resident refl)) h.whole) in
+      record { source = h.source; cargo = h.cargo; there = cargo_same l placed p (resident refl) (notes refl) ∙ h.there; whole = whole; pieces = h.pieces; held = messages_on l.bag placed.bag js a.held held h.held }
+  known_same (Forward at_ moves) (Some (Record.Forward to n)) resident notes h = h
+  known_same k r resident notes h = h
 
--- what a machine knows of a process that stays
-pub known_at : (l placed : Placed) (q : Pid) (ids held_ : List MsgId) (w : Known) (r : Option machine.KernelKnown) → placed.processes q ≡ l.processes q → placed.notes q ≡ l.notes q
+-- what a machine knows of what stays
+pub known_at : (l placed : Placed) (q : Pid) (ids held_ : List MsgId) (w : Known) (r : Option machine.KernelKnown) → SameSystem l placed → resident_at placed q ≡ resident_at l q → placed.notes q ≡ l.notes q
     → ((i : MsgId) → 1 ≤ times i ids → placed.bag i ≡ l.bag i) → ((i : MsgId) → 1 ≤ times i held_ → placed.bag i ≡ l.bag i) → KnownStands l q ids held_ w r → KnownStands placed q ids held_ w r
-known_at l placed q ids held_ w r p n b c h = known_same l placed q ids held_ b c w r (λ is. p) (λ is. n) h
+known_at l placed q ids held_ w r s p n b c h = known_same l placed q ids held_ s b c w r (λ is. p) (λ is. n) h
 
 -- what a machine keeps where process p changes
 pub record Stays (k n : KernelState) (p : Pid) : Type 0 where
   pub here : n.here ≡ k.here
   pub records : (q : Pid) → pid_eq p q ≡ false → n.records q ≡ k.records q
   pub made : n.made ≡ k.made
-  pub servers : n.servers ≡ k.servers
   pub preds : (q : Pid) → pid_eq p q ≡ false → n.preds q ≡ k.preds q
 
-server_apart : (p q : Pid) → is_server p ≡ false → is_server q ≡ true → pid_eq p q ≡ false
-server_apart p q off on = grind (arith, nat_tests, pid_eq-is)
-
 -- process p of the machine is set: where what is known of p, the ring, the inbox and the room stand, the kernel stands
-pub set_stands : (b : Boot) (m : ℕ) (t : Spot → Bool) (p : Pid) (pt next : Point) (l placed : Placed) (k n : KernelState) → Leaves m t p pt l next placed → Stays k n p → ((q : Pid) → pid_eq p q ≡ false → t (Queue m q) ≡ false) → ((q : Pid) → t (Held m q) ≡ false) → is_server p ≡ false
+pub set_stands : (b : Boot) (m : ℕ) (t : Spot → Bool) (p : Pid) (pt next : Point) (l placed : Placed) (k n : KernelState) → Leaves m t p pt l next placed → Stays k n p → ((q : Pid) → pid_eq p q ≡ false → t (Queue m q) ≡ false) → ((q : Pid) → t (Held m q) ≡ false)
     → KnownStands placed p (next.view.queue m p) (next.view.held m p) (next.view.known m p) (n.records p) → n.preds p ≡ next.view.preds m p → ((j : ℕ) → length b.machines ≤ j → n.preds p j ≡ false) → n.ring ≡ next.view.ring m → AreMessages placed.bag (next.view.inbox m) n.inbox
     → RoomStands n.room (room_of (slice_get b.machines m)) (taken_at next m next.kernel.machines) → KernelStands b pt l m k → KernelStands b next placed m n
-set_stands b m t p pt next l placed k n g s queues helds server known mine within ring inbox room h = record {
+set_stands b m t p pt next l placed k n g s queues helds known mine within ring inbox room h = record {
   here = s.here ∙ h.here;
-  known = λ q off. elim (cases_Bool (pid_eq p q)) [
+  known = λ q. elim (cases_Bool (pid_eq p q)) [
     | inl same ↦ subst (λ (z : Pid). KnownStands placed z (next.view.queue m z) (next.view.held m z) (next.view.known m z) (n.records z)) (pid_eq-is p q same) known
     | inr apart ↦
         let w : KnownStands placed q (pt.view.queue m q) (pt.view.held m q) (pt.view.known m q) (k.records q) =
-        known_at l placed q (pt.view.queue m q) (pt.view.held m q) (pt.view.known m q) (k.records q) (g.placed_.process q apart) (g.placed_.notes q)
-        (λ i least. g.placed_.bag i (Queue m q) (queues q apart) least) (λ i least. g.placed_.bag i (Held m q) (helds q) least) (h.known q off) in
+        known_at l placed q (pt.view.queue m q) (pt.view.held m q) (pt.view.known m q) (k.records q) (same_manager l placed g.placed_.manager) (leaves_resident t p pt.view l placed g.placed_ q apart) (g.placed_.notes q)
+        (λ i least. g.placed_.bag i (Queue m q) (queues q apart) least) (λ i least. g.placed_.bag i (Held m q) (helds q) least) (h.known q) in
         let ids : next.view.queue m q ≡ pt.view.queue m q = g.view.lists (Queue m q) (queues q apart) in
         let same : next.view.known m q ≡ pt.view.known m q = g.view.known m q (right_off (m == m) (pid_eq p q) apart) in
         subst (λ (r : Option machine.KernelKnown). KnownStands placed q (next.view.queue m q) (next.view.held m q) (next.view.known m q) r) (sym (s.records q apart))
@@ -202,7 +207,6 @@ set_stands b m t p pt next l placed k n g s queues helds server known mine withi
         (subst (λ (z : List MsgId). KnownStands placed q (next.view.queue m q) z (pt.view.known m q) (k.records q)) (sym (g.view.held m q))
         (subst (λ (z : List MsgId). KnownStands placed q z (pt.view.held m q) (pt.view.known m q) (k.records q)) (sym ids) w)))
   ];
-  no_server = λ q on. s.records q (server_apart p q server on) ∙ h.no_server q on;
   preds = record {
     same = λ q. elim (cases_Bool (pid_eq p q)) [
       | inl same ↦ subst (λ (z : Pid). n.preds z ≡ next.view.preds m z) (pid_eq-is p q same) mine
@@ -217,11 +221,7 @@ set_stands b m t p pt next l placed k n g s queues helds server known mine withi
   inbox = inbox;
   made = s.made ∙ h.made ∙ sym (g.kernel.made m);
   room = room;
-  servers = s.servers ∙ h.servers ∙ sym (servers_same g.placed_.board g.placed_.manager);
 }
-  where
-    servers_same : placed.board ≡ l.board → placed.manager ≡ l.manager → servers_at placed m ≡ servers_at l m
-    servers_same e f = λ i. if m == 0 then Some (record { board = e i; manager = f i }) else None
 
 -- the inbox, where it stays
 pub inbox_stands : (m : ℕ) (t : Spot → Bool) (p : Pid) (pt next : Point) (l placed : Placed) (ms : List Message) → Leaves m t p pt l next placed → t (Inbox m) ≡ false → AreMessages l.bag (pt.view.inbox m) ms → AreMessages placed.bag (next.view.inbox m) ms
@@ -274,7 +274,7 @@ pub record LivesHere (m : ℕ) (pt : Point) (l : Placed) (k : KernelState) (p : 
   pub alive : pt.kernel.processes p ≡ Some (Alive (plain_process x))
   -- it follows no request to move
   pub free : pt.kernel.notes p ≡ None
-  pub record_is : k.records p ≡ Some (Record.Here x)
+  pub record_is : k.records p ≡ Some (Record.Here (Resident.Process x))
   pub known : pt.view.known m p ≡ view.Here
   pub queue : List Message
   pub there : l.processes p ≡ Some (with_queue x queue)
@@ -282,14 +282,17 @@ pub record LivesHere (m : ℕ) (pt : Point) (l : Placed) (k : KernelState) (p : 
 
 -- it goes on, with as much memory
 pub goes_stands : (b : Boot) (m : ℕ) (t : Spot → Bool) (p : Pid) (pt next : Point) (l placed : Placed) (k n : KernelState) (x y : Process) (queue : List Message) → LivesHere m pt l k p x → Leaves m t p pt l next placed → Stays k n p
-    → ((q : Pid) → pid_eq p q ≡ false → t (Queue m q) ≡ false) → ((q : Pid) → t (Held m q) ≡ false) → n.records p ≡ Some (Record.Here y) → n.room ≡ k.room → n.ring ≡ next.view.ring m → AreMessages placed.bag (next.view.inbox m) n.inbox → next.view.known m p ≡ pt.view.known m p → next.view.preds m p ≡ pt.view.preds m p → n.preds p ≡ k.preds p
+    → ((q : Pid) → pid_eq p q ≡ false → t (Queue m q) ≡ false) → ((q : Pid) → t (Held m q) ≡ false) → n.records p ≡ Some (Record.Here (Resident.Process y)) → n.room ≡ k.room → n.ring ≡ next.view.ring m → AreMessages placed.bag (next.view.inbox m) n.inbox → next.view.known m p ≡ pt.view.known m p → next.view.preds m p ≡ pt.view.preds m p → n.preds p ≡ k.preds p
     → next.kernel.processes p ≡ Some (Alive (plain_process y)) → placed.processes p ≡ Some (with_queue y queue) → AreMessages placed.bag (next.view.queue m p) y.queue → length y.memory ≡ length x.memory → KernelStands b pt l m k → KernelStands b next placed m n
 goes_stands b m t p pt next l placed k n x y queue at g s queues helds e room ring inbox known said mine alive there messages memory h =
     let blocks_same : (x y : Process) → length y.memory ≡ length x.memory → blocks_of (Some (plain_process y)) ≡ blocks_of (Some (plain_process x)) = λ x y e. ap (λ (n : ℕ). n / 256) e in
     let takes : taken_by next m p ≡ taken_by pt m p = grind (arith, nat_tests, takes_as, blocks_same) in
     -- what is known of it
-    let known_here : KnownStands placed p (next.view.queue m p) (next.view.held m p) (next.view.known m p) (n.records p) = grind (arith, nat_tests, next.view.queue, next.view.held, next.view.known, known ∙ at.known) in
-    set_stands b m t p pt next l placed k n g s queues helds at.server known_here (mine ∙ h.preds.same p ∙ sym said) (λ j far. ap (λ (f : ℕ → Bool). f j) mine ∙ h.preds.within p j far) ring inbox (room_same b m t p pt next l placed k n g room takes h.room) h
+    let known_here : KnownStands placed p (next.view.queue m p) (next.view.held m p) (next.view.known m p) (n.records p) =
+    subst (KnownStands placed p (next.view.queue m p) (next.view.held m p) (next.view.known m p)) (sym e)
+    (subst (λ (z : Known). KnownStands placed p (next.view.queue m p) (next.view.held m p) z (Some (Record.Here (Resident.Process y)))) (sym (known ∙ at.known))
+    (here_process placed p (next.view.queue m p) y queue at.server there messages)) in
+    set_stands b m t p pt next l placed k n g s queues helds known_here (mine ∙ h.preds.same p ∙ sym said) (λ j far. ap (λ (f : ℕ → Bool). f j) mine ∙ h.preds.within p j far) ring inbox (room_same b m t p pt next l placed k n g room takes h.room) h
 
 -- it ends and is forgotten, and its slot and its blocks are free again
 pub ends_stands : (b : Boot) (m : ℕ) (t : Spot → Bool) (p : Pid) (pt next : Point) (l placed : Placed) (k n : KernelState) (x y : Process) (because : Why) → LivesHere m pt l k p x → Leaves m t p pt l next placed → Stays k n p
@@ -298,7 +301,7 @@ pub ends_stands : (b : Boot) (m : ℕ) (t : Spot → Bool) (p : Pid) (pt next : 
 ends_stands b m t p pt next l placed k n x y because at g s queues helds e none said room ring inbox known ended memory made h =
     let after : taken_by next m p ≡ record { slots = 0; blocks = 0 } = grind (arith, nat_tests) in
     let known_ended : KnownStands placed p (next.view.queue m p) (next.view.held m p) (next.view.known m p) (n.records p) = grind (arith, nat_tests, next.view.queue, next.view.held, next.view.known) in
-    set_stands b m t p pt next l placed k n g s queues helds at.server known_ended (none ∙ sym said) (λ j far. ap (λ (f : ℕ → Bool). f j) none) ring inbox
+    set_stands b m t p pt next l placed k n g s queues helds known_ended (none ∙ sym said) (λ j far. ap (λ (f : ℕ → Bool). f j) none) ring inbox
     (room_released b m t p pt next l placed k n (machine.blocks_of y) g room (grind (arith, nat_tests)) after (ap is_some at.alive) made h.room) h
 
 -- What each way in which a label changes view, kernel and kernel with places leaves; and a label as a step with places.

@@ -17,12 +17,21 @@ use Rattle.dm_mirror.proofs.Leave.Fronts.{tokens_one}
 use Rattle.dm_mirror.proofs.Rooms.{taken_same}
 use Rattle.dm_mirror.proofs.Turning.{is_elsewhere}
 use Rattle.dm_mirror.proofs.LeftOver.{left_asks}
+use Rattle.dm_kernel.specs.Departing as departing_
+use Rattle.dm_mirror.proofs.Residents.{ProcessHere, asked_apart, process_here, same_manager}
+use Rattle.dm_mirror.proofs.Names.{Resident, List}
 
 -- the point behind a line that changes what was seen alone
 abbrev pub with_view : Point → View → Point
 with_view pt v = record { kernel = pt.kernel; view = v; addresses = pt.addresses }
 
--- a turn of machine m in which the move of process p ends, by this line: what it comes to before whoever asked for it is told
+-- nobody asked for it
+tells_none : (here : ℕ) (r : Resident) (o : Outcome) → departing_.tells_of here r o None ≡ []
+tells_none here (Resident.Process x) o = refl
+tells_none here (Resident.Board v) o = refl
+tells_none here (Resident.Manager g) o = refl
+
+-- a turn of machine m in which the move of p ends, by this line: what it comes to before whoever asked for it is told
 pub record EndsMove (b : Boot) (m : ℕ) (pt : Point) (l : Placed) (records : AllRecords) (k : KernelState) (p : Pid) (line : Line) (state : KernelState) (v : View) (placed : Placed) : Type 0 where
   pub run : Run b pt
   pub said : after_line (begun pt m) line ≡ Some (with_view pt v)
@@ -34,10 +43,9 @@ pub record EndsMove (b : Boot) (m : ℕ) (pt : Point) (l : Placed) (records : Al
   pub own : AllOwnStand v placed
   pub tokens : TokensStand v placed (at_machine records m state.records)
   -- it is here now, and no other machine has it
-  pub process : Process
-  pub is : state.records p ≡ Some (Record.Here process)
+  pub resident : Resident
+  pub is : state.records p ≡ Some (Record.Here resident)
   pub known : v.known m p ≡ Here
-  pub server : is_server p ≡ false
   pub alone : (n : ℕ) → n ≢ m → has_process (pt.view.known n p) ≡ false
   -- what stands stood before, and of its migration only what is left over
   pub stood : (i : MsgId) (z : Spot) → 1 ≤ standing v i z → (y : Spot) × (1 ≤ standing pt.view i y)
@@ -77,19 +85,25 @@ module _ (b : Boot) (m : ℕ) (pt : Point) (l : Placed) (records : AllRecords) (
     | inr out ↦ out
   ]
 
-  -- somebody did
-  ends_asked : (o : Outcome) (n : Asker) → placed.notes p ≡ Some n
+  -- as what stands there
+  mine : HereStands placed p (v.queue m p) h.resident
+  mine =
+      subst (λ (r : Option machine.KernelKnown). KnownStands placed p (v.queue m p) (v.held m p) Here r) h.is
+      (subst (λ (w : Known). KnownStands placed p (v.queue m p) (v.held m p) w (state.records p)) h.known (h.kernel.known p))
+
+  -- somebody did, and it is a process
+  ends_asked : (o : Outcome) (n : Asker) (c : ProcessHere placed p (v.queue m p) h.resident) → placed.notes p ≡ Some n
       → service.ends_move pt.kernel (manager_request n) p (plain_note n) o ≡ Some (service.move_ended pt.kernel (manager_request n) p (plain_note n) o)
-      → turns b k k.inbox ≡ Some (record { state = state; parts = Part.Says line ∷ tells_asker m h.process o (Some n) })
+      → turns b k k.inbox ≡ Some (record { state = state; parts = Part.Says line ∷ tells_asker m c.process o (Some n) })
       → outcome b pt (Step.Turn m) ≡ Some (rule.Says line ∷ migrating.answers_move (manager_request n) o) → TurnsAt b m pt l records k
-  ends_asked o n notes ends turns due =
+  ends_asked o n c notes ends turns due =
       let s = pt.kernel in
       let mid = with_view pt v in
       let note : MoveNote = plain_note n in
       let id : MsgId = manager_request n in
       let e = Label.Answered id o in
       let t : OneKernel = service.move_ended s id p note o in
-      let a : Message = moved_answer m h.process o n in
+      let a : Message = moved_answer m c.process o n in
       let on : Placed = with_sent (without_note placed p id) (Some a) in
       let next = moved mid (Line.Label e) t in
       let sane = h.run.based.phased.sane in
@@ -100,10 +114,7 @@ module _ (b : Boot) (m : ℕ) (pt : Point) (l : Placed) (records : AllRecords) (
       ∙ ap (λ (q : Option MoveNote). bind q (λ (w : MoveNote). service.ends_move s id p w o)) is_note ∙ ends in
       let bag = bag_answered sane.r sane.e s t id o step sane.sound in
       let free : s.bag a.id ≡ None = bag_none sane.r sane.e s (answer_id id) (bag.fresh (answer_id id) refl) sane.sound.entered in
-      let mine : HereStands placed p (v.queue m p) h.process =
-      subst (λ (r : Option machine.KernelKnown). KnownStands placed p (v.queue m p) (v.held m p) Here r) h.is
-      (subst (λ (w : Known). KnownStands placed p (v.queue m p) (v.held m p) w (state.records p)) h.known (h.kernel.known p h.server)) in
-      let there : placed.processes p ≡ Some (record h.process { queue = mine.0.0 }) = mine.0.1 in
+      let there : placed.processes p ≡ Some (record c.process { queue = c.waits }) = c.there in
       let needs : StepNeeds s v e = λ q w noted_ notes_. (
       let f = sane.sound.notes.follows id q noted_ in
       let same : f.0 ≡ w = some_same f.0 w (sym f.1 ∙ notes_) in
@@ -120,7 +131,7 @@ module _ (b : Boot) (m : ℕ) (pt : Point) (l : Placed) (records : AllRecords) (
       let here : KnownStands on p (v.queue m p) (v.held m p) (v.known m p) (state.records p) =
       subst (λ (w : Known). KnownStands on p (v.queue m p) (v.held m p) w (state.records p)) (sym h.known)
       (subst (KnownStands on p (v.queue m p) (v.held m p) Here) (sym h.is)
-      ((mine.0.0, there), map_same placed.bag on.bag (v.queue m p) (λ j least. same j (Queue m p) least) ∙ mine.1)) in
+      ((mine.0.0, mine.0.1), map_same placed.bag on.bag (v.queue m p) (λ j least. same j (Queue m p) least) ∙ mine.1)) in
       let queues : (q : Pid) (j : MsgId) → pid_eq p q ≡ false → 1 ≤ times j (v.queue m q) → on.bag j ≡ placed.bag j =
       λ q j off least. same j (Queue m q) least in
       let holds : (q : Pid) (j : MsgId) → pid_eq p q ≡ false → 1 ≤ times j (v.held m q) → on.bag j ≡ placed.bag j = λ q j off least. same j (Held m q) least in
@@ -136,9 +147,9 @@ module _ (b : Boot) (m : ℕ) (pt : Point) (l : Placed) (records : AllRecords) (
         after = ap (λ (q : Option Point). bind q (λ (w : Point). after w (Line.Label e ∷ []))) h.said ∙ after_label mid e t [] next step refl;
         placed = on;
         mirrors = label_mirrors mid placed on m e t h.mirrors g.acting needs step placed_is;
-        kernel = stands_set b mid next placed on m state state p (search (others, queues, holds, here)) h.kernel h.kernel.ring
+        kernel = stands_set b mid next placed on m state state p (search (others, queues, holds, same_manager placed on refl, here)) h.kernel h.kernel.ring
             (map_same placed.bag on.bag (v.inbox m) (λ j least. same j (Inbox m) least) ∙ h.kernel.inbox) h.kernel.made
-            (subst (RoomStands state.room (room_of (slice_get b.machines m))) (sym (taken_same mid next m refl (λ w. refl) (λ q. refl))) h.kernel.room) h.kernel.servers h.kernel.preds;
+            (subst (RoomStands state.room (room_of (slice_get b.machines m))) (sym (taken_same mid next m refl (λ w. refl) (λ q. refl))) h.kernel.room) h.kernel.preds;
         sent = λ f. h.sent f ∙ (let z : (w : ℕ) → w ≡ w + 0 = λ w. omega arith in z (v.count m));
         over = NoneEnds h.over (λ q. refl);
         topic = tt;
@@ -156,7 +167,7 @@ module _ (b : Boot) (m : ℕ) (pt : Point) (l : Placed) (records : AllRecords) (
         ];
         tokens = tokens_one v next.view placed on (at_machine records m state.records) (at_machine records m state.records) p
             (record {
-              stays = record { told = refl; asked = λ q off. refl; processes = λ q off. refl; notes = others; records = λ w q off. refl; known = λ w q off. refl };
+              stays = record { told = refl; asked = λ q off. refl; residents = λ q off. refl; notes = others; records = λ w q off. refl; known = λ w q off. refl };
               came = λ i u z told between least. ((z, least), same i z least);
               left = λ i u z told between about least. (let x = h.left i u z told between about least in (x.0, left_asks placed on p i x.1 refl (same i z least ∙ x.1.is)));
             }) h.tokens;
@@ -165,11 +176,12 @@ module _ (b : Boot) (m : ℕ) (pt : Point) (l : Placed) (records : AllRecords) (
   -- by who waits to hear
   pub ends_move_row : (o : Outcome) (asker : Option Asker) → placed.notes p ≡ asker
       → ((n : MoveNote) → service.ends_move pt.kernel n.id p n o ≡ Some (service.move_ended pt.kernel n.id p n o))
-      → turns b k k.inbox ≡ Some (record { state = state; parts = Part.Says line ∷ tells_asker m h.process o asker })
+      → turns b k k.inbox ≡ Some (record { state = state; parts = Part.Says line ∷ departing_.tells_of m h.resident o asker })
       → outcome b pt (Step.Turn m) ≡ Some (rule.Says line ∷ migrating.tells_asker (pt.kernel.notes p) o) → TurnsAt b m pt l records k
   ends_move_row o None notes ends turns due =
       let free : pt.kernel.notes p ≡ None = sym (h.mirrors.plain.notes p) ∙ ap (option_map plain_note) notes in
-      ends_alone turns (due ∙ ap (λ (q : Option MoveNote). Some (rule.Says line ∷ migrating.tells_asker q o)) free)
+      ends_alone (turns ∙ ap (λ (ps : List Part). Some (record { state = state; parts = Part.Says line ∷ ps })) (tells_none m h.resident o)) (due ∙ ap (λ (q : Option MoveNote). Some (rule.Says line ∷ migrating.tells_asker q o)) free)
   ends_move_row o (Some n) notes ends turns due =
       let is_note : pt.kernel.notes p ≡ Some (plain_note n) = sym (h.mirrors.plain.notes p) ∙ ap (option_map plain_note) notes in
-      ends_asked o n notes (ends (plain_note n)) turns (due ∙ ap (λ (q : Option MoveNote). Some (rule.Says line ∷ migrating.tells_asker q o)) is_note)
+      let c = process_here placed p (v.queue m p) h.resident (asked_apart b pt p (plain_note n) h.run is_note) mine in
+      ends_asked o n c notes (ends (plain_note n)) (turns ∙ ap (λ (r : Resident). Some (record { state = state; parts = Part.Says line ∷ departing_.tells_of m r o (Some n) })) c.is) (due ∙ ap (λ (q : Option MoveNote). Some (rule.Says line ∷ migrating.tells_asker q o)) is_note)

@@ -22,6 +22,8 @@ use Rattle.dm_mirror.proofs.Follow.Fronts.{elsewhere_apart, front_gone}
 use Rattle.dm_mirror.proofs.Rooms.{taken_same}
 use Rattle.dm_mirror.proofs.Row.Tokens.{row_turns}
 use Rattle.dm_mirror.proofs.Leave.Asks.{room_stays, off_state, off_view, sets_off}
+use Rattle.dm_mirror.proofs.Residents.{here_process, same_manager}
+use Rattle.dm_mirror.proofs.Names.{Resident}
 
 -- a request to move is one of the manager's messages
 pub asked_by_manager : (s : OneKernel) (i : MsgId) (x : PlainMessage) (machine : ℕ) → x.what ≡ PlainWhat.Move machine → WhatFits s i x x.what → i ≡ id_of manager i.n
@@ -72,7 +74,7 @@ follows_on b m pt l k y machine c h =
 -- to another machine
 asked_other : (b : Boot) (m : ℕ) (pt : Point) (l : Placed) (records : AllRecords) (k : KernelState) (y : Message) (machine : ℕ) (c : Taking b m pt l k y (PlainWhat.Move machine)) (h : IsHere b m pt l k y.to.pid)
     → TokensStand pt.view l records → records m ≡ k.records → k.sent ≡ pt.view.count m
-    → m ≢ machine → CanMove h.x → TurnsAt b m pt l records k
+    → m ≢ machine → CanMove (Resident.Process h.x) → TurnsAt b m pt l records k
 asked_other b m pt l records k y machine c h tokens mine counted apart whole =
     -- what the bag doesn't have it doesn't have without a message
     let still_none : (c : Bool) (o : Option Message) → o ≡ None → (if c then None else o) ≡ None = λ c o e. grind (arith, nat_tests) in
@@ -90,16 +92,15 @@ asked_other b m pt l records k y machine c h tokens mine counted apart whole =
     let off_rule : (m == machine) ≡ false = eq_not m machine apart in
     let at_once =
     kernels.says (Label.Asked i) ∷ kernels.says (Label.Answered (manager_request (asker_of y)) Outcome.Done) ∷ Part.Routes (moved_answer k.here h.x Outcome.Done (asker_of y)) ∷ [] in
-    let sent_off = turned (off_state k c.rest p h.x machine asker) (kernels.says (Label.Asked i) ∷ freezing s0 p h.x machine asker) in
+    let sent_off = turned (off_state k c.rest p (Resident.Process h.x) machine asker) (kernels.says (Label.Asked i) ∷ freezing s0 p (Resident.Process h.x) machine asker) in
     let next : Point = record { kernel = mid.kernel; view = off_view pt m p box machine; addresses = mid.addresses } in
     sets_off b m pt l records k p machine asker (Line.Label (Label.Asked i) ∷ frozen) mid.kernel mid.addresses box machine on (record {
       before = record { run = c.run; mirrors = c.mirrors; stands = c.stands; own = c.own; tokens = tokens; records_here = mine; sent = counted };
-      process = h.x;
+      resident = Resident.Process h.x;
       is = h.there;
-      here = ((h.queue, h.placed), h.waits);
+      here = here_process l p (pt.view.queue m p) h.x h.queue (not_server p h.process) h.placed h.waits;
       whole = whole;
       at_m = h.known;
-      server = not_server p h.process;
       to_is = refl;
       front = i;
       ids = c.ids;
@@ -178,14 +179,14 @@ asked_here b m pt l k y machine c h is =
     let here : KnownStands on p (pt.view.queue m p) (pt.view.held m p) (pt.view.known m p) (k.records p) =
     subst (λ (z : view.Known). KnownStands on p (pt.view.queue m p) (pt.view.held m p) z (k.records p)) (sym h.known)
     (subst (KnownStands on p (pt.view.queue m p) (pt.view.held m p) Here) (sym h.there)
-    ((h.queue, h.placed), map_same l.bag on.bag (pt.view.queue m p) (queues p) ∙ h.waits)) in
+    (here_process on p (pt.view.queue m p) h.x h.queue (not_server p h.process) h.placed (map_same l.bag on.bag (pt.view.queue m p) (queues p) ∙ h.waits))) in
     let taken = taken_same pt next m refl (λ n. refl) (λ q. refl) in
     let to_here : (machine == k.here) ≡ true = ap (λ (n : ℕ). n == k.here) (sym is ∙ sym c.stands.here) ∙ eq_self k.here in
     let to_rule : (m == machine) ≡ true = ap (λ (n : ℕ). m == n) (sym is) ∙ eq_self m in
     let parts =
     λ (n : MsgId) (z : ℕ). kernels.says (Label.Asked i) ∷ kernels.says (Label.Answered n Outcome.Done) ∷ Part.Routes (moved_answer z h.x Outcome.Done asker) ∷ [] in
     let sent_off =
-    turned (kernels.with_sent (with_frozen k0 p h.x machine (Some asker))) (kernels.says (Label.Asked i) ∷ freezing k0 p h.x machine (Some asker)) in
+    turned (kernels.with_sent (with_frozen k0 p (Resident.Process h.x) machine (Some asker))) (kernels.says (Label.Asked i) ∷ freezing k0 p (Resident.Process h.x) machine (Some asker)) in
     record {
       state = k0;
       says = Line.Label (Label.Asked i) ∷ Line.Label e ∷ [];
@@ -200,13 +201,14 @@ asked_here b m pt l k y machine c h is =
       after = after_label (begun pt m) (Label.Asked i) mid.kernel (Line.Label e ∷ []) next f.step (ap (λ (q : Point). after q (Line.Label e ∷ [])) f.point ∙ after_label mid e t [] next step refl);
       placed = on;
       mirrors = label_mirrors mid mid_placed on m e t f.mirrors refl needs step placed_is;
-      kernel = stands_set b pt next l on m k k0 p (search (others, queues, holds, here)) c.stands
+      kernel = stands_set b pt next l on m k k0 p (search (others, queues, holds, same_manager l on refl, here)) c.stands
           c.stands.ring
           (ap (map on.bag) (machine_self pt.view.inbox m (without_front i (pt.view.inbox m)) ∙ front_gone i c.ids (pt.view.inbox m) c.box) ∙ map_same l.bag on.bag c.ids behind ∙ c.others)
           c.stands.made (room_stays k.room _ _ _ taken c.stands.room)
-          c.stands.servers c.stands.preds;
+          c.stands.preds;
       elsewhere = search (
         machine_off,
+        same_manager l on refl,
         λ (n : ℕ) (q : Pid) (off : n ≢ m) (has : has_process (pt.view.known n q) ≡ true). others q (here_left pt m p q c.run.based.phased.phases h.known (Elsewhere n off has)),
         λ (j : MsgId) (z : Spot) (away : is_elsewhere m z ≡ true) (least : 1 ≤ standing (begun pt m).view j z). kept z j (elsewhere_apart m z away) (subst (λ (n : ℕ). 1 ≤ n) (standing_begun pt m j z) least),
       );
@@ -227,6 +229,6 @@ asked_turn b m pt l records k y machine c h tokens mine counted whole = elim (eq
   | inl is ↦ row_turns b m pt l records k c.run c.own tokens mine counted (asked_here b m pt l k y machine c h is.1)
   | inr off ↦
       asked_other b m pt l records k y machine c h tokens mine counted off.1
-      (subst (λ (w : What). KnownIsWhole k.here w (Some (Record.Here h.x))) (move_what y.what machine c.says)
-      (subst (KnownIsWhole k.here y.what) h.there (whole h.process.number h.process.no_board h.process.no_manager)) (λ e. off.1 (sym (e ∙ c.stands.here))))
+      (subst (λ (w : What). KnownIsWhole k.here w (Some (Record.Here (Resident.Process h.x)))) (move_what y.what machine c.says)
+      (subst (KnownIsWhole k.here y.what) h.there (whole h.process.number)) (λ e. off.1 (sym (e ∙ c.stands.here))))
 ]

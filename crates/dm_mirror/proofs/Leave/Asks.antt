@@ -1,15 +1,21 @@
 -- A process is told to move: to where it is, or it is frozen, and the other machine is asked.
 use Rattle.dm_mirror.proofs.Names.{turns, ◌≡◌, ◌≢◌, ℕ, ◌+◌, ◌≤◌, ◌==◌, ◌&&◌, Bool, true, false, not, List, [], ◌∷◌, map, refl, ap, ◌∙◌, sym, subst, inl, inr, arith, if◌then◌else◌, None, Some, eqb_tells, Pid, pid_eq, kernel_at, Message}
-use Rattle.dm_mirror.proofs.Names.{nat_tests, MsgId, What, MessageKind, Record, Line, Stage, Process, CanMove, ask_of, frozen, Taken, Boot, manager, switchboard, FreezesReceiverWhole, KnownIsWhole, freezes, with_frozen, KernelState, own}
-use Rattle.dm_mirror.proofs.Names.{turned, pid_eq-is, pid_eq-same, to_kernel, Point, moved, Room, taken_by, takes_room, at_machine, at_record, without, without_front, times, Here, Frozen, Known, Of, own_id, target_of, is_server}
-use Rattle.dm_mirror.proofs.Names.{has_nothing_held, is_fixed, Placed, mirrors_view, told_of, KnownStands, LeavesStand, RoomStands, AllRecords, eq_not, or-right, ◌/◌, length, option_map, Option, Addr, pid_of, kind_of, plain_what, with_what}
-use Rattle.dm_mirror.proofs.Names.{frozen_of, incoming_of, Departure, block_of, chunk_of, state_of, OneKernel, bind, plain_process, gives_piece, kernel_handles, Addresses, Receiver, Sender, gets, own_given, unmoved, told_step, is_between}
+use Rattle.dm_mirror.proofs.Names.{nat_tests, MsgId, What, MessageKind, Record, Line, Stage, Resident, resident_at, CanMove, ask_of, frozen, Taken, Boot, FreezesReceiverWhole, KnownIsWhole, freezes, with_frozen, KernelState, own}
+use Rattle.dm_mirror.proofs.Names.{turned, pid_eq-is, pid_eq-same, to_kernel, Point, moved, Room, taken_by, takes_room, at_machine, at_record, without, without_front, times, Here, Frozen, Known, Of, own_id, target_of}
+use Rattle.dm_mirror.proofs.Names.{has_nothing_held, is_fixed, Placed, mirrors_view, told_of, KnownStands, LeavesStand, RoomStands, AllRecords, eq_not, option_map, Option, Addr, pid_of, kind_of, plain_what, with_what}
+use Rattle.dm_mirror.proofs.Names.{frozen_of, incoming_of, Departure, block_of, chunk_of, state_of, OneKernel, bind, gives_piece, kernel_handles, Addresses, Receiver, Sender, gets, own_given, unmoved, told_step, is_between}
 use Rattle.dm_mirror.proofs.Names.{tells_onward, fits, free_room, kernel_hears, Inbox, standing, Told, View, after_proto, handled, Run, enclosed, about_of, Carries, destination_of, false≢true, ◌++◌, turn, outcome, after, Step}
 use Rattle.dm_mirror.proofs.Names.{plain_message, HereStands, Mirrors, AreMessages, Spot, Queue, Held, spot_cases, Asker, leaves_for, here_free, Part, sort_of, drop, slice_get, option_and_then, Cargo, cargo_at, cargo_of, ◌⊎◌, ◌||◌}
-use Rattle.dm_mirror.proofs.Names.{cases_Bool, PlainProcess, receiver_in, LeftCarries, is_due_piece, is_piece, brings_piece, pulls_piece, is_waited_from, with_sent, buried, tells_end, is_stale}
+use Rattle.dm_mirror.proofs.Names.{cases_Bool, receiver_in, LeftCarries, is_due_piece, is_piece, brings_piece, pulls_piece, is_waited_from, with_sent, buried, tells_end, is_stale}
 use Rattle.dm_mirror.proofs.Recorded.{Recorded, recorded}
+use Rattle.dm_mirror.proofs.Residents.{SameSystem, cargo_queue, here_is, resident_same, same_manager}
+use Rattle.dm_mirror.proofs.Sized.{here_sized, size_at}
+use Rattle.dm_resident.specs.Residents as residents
+use Rattle.dm_rule.specs.Migrating.{Size, size_of}
+use Rattle.dm_kernel.specs.Departing as departing_
+use Rattle.dm_kernel.specs.Handle as handle
 use Rattle.dm_mirror.proofs.Rooms.{taken_same}
-use Rattle.dm_mirror.proofs.Leave.Fronts.{FrontGone, Hearing, Present, rests_over, outcome_hears, stood, turn_hears, Leaving, leaving, stands_first, absent_next, may_between, own_is, records_as, three_off, to_process, here_hears}
+use Rattle.dm_mirror.proofs.Leave.Fronts.{FrontGone, Hearing, Present, rests_over, outcome_hears, stood, turn_hears, Leaving, leaving, stands_first, absent_next, may_between, own_is, records_as, to_process, here_hears}
 use Rattle.dm_mirror.proofs.Leave.Fronts.{untold_next, to_kernel_hears, own_stays, tokens_one, front_rest}
 use Rattle.dm_mirror.proofs.Turning.{NoneEnds, own_first, own_behind, Nothing, Own, TurnsAt, begun, has_process, is_elsewhere, late_parts, late_rule_parts, part_of, rule_part_of}
 use Rattle.dm_mirror.proofs.Handle.Taking.{eq_self, machine_self, machine_off, record_self, record_off, record_others, some_same, stands_set, held_apart, map_same, queue_apart}
@@ -29,9 +35,15 @@ use Rattle.dm_mirror.proofs.Turning.{IsCarried, IsLeftOver}
 pub room_stays : (room given : Taken) (r s : Room) → s ≡ r → RoomStands room given r → RoomStands room given s
 room_stays room given r s e h = subst (RoomStands room given) (sym e) h
 
--- a process that is told to move is no kernel and no server
+-- what is told to move is no kernel
 migrates_loose : (b : Boot) (m : ℕ) (pt : Point) (l : Placed) (records : AllRecords) (k : KernelState) (y : Message) (machine : ℕ) → Hearing b m pt l records k (record y { what = What.Migrate machine }) → is_fixed y.to.pid ≡ false
 migrates_loose b m pt l records k y machine h = grind (arith, nat_tests, h.sorts.own y.id (told_of (record y { what = What.Migrate machine })) h.told h.mine)
+
+-- whoever it is
+resident_migrates : (s : KernelState) (y : Message) (machine : ℕ) (r : Resident) → handle.resident_handles s (record y { what = What.Migrate machine }) r ≡ departing_.migrates s (record y { what = What.Migrate machine }) r machine
+resident_migrates s y machine (Resident.Process x) = refl
+resident_migrates s y machine (Resident.Board v) = refl
+resident_migrates s y machine (Resident.Manager v) = refl
 
 -- to where it is
 here_already : (b : Boot) (m : ℕ) (pt : Point) (l : Placed) (records : AllRecords) (k : KernelState) (y : Message) (machine : ℕ) → Hearing b m pt l records k (record y { what = What.Migrate machine }) → pt.view.known m y.to.pid ≡ Here → m ≡ machine → TurnsAt b m pt l records k
@@ -40,8 +52,7 @@ here_already b m pt l records k y machine h at_m is =
     let p = y.to.pid in
     let s : KernelState = record k { inbox = h.rest } in
     let loose = migrates_loose b m pt l records k y machine h in
-    let server : is_server p ≡ false = or-right (p.num == 0) (is_server p) loose in
-    let (x, is_here, stands) = recorded b pt l m k p Here h.stands server at_m in
+    let (x, is_here, stands) = recorded b pt l m k p Here h.stands at_m in
     let next : Point = moved (begun pt m) (Line.Here y.id) pt.kernel in
     let box : next.view.inbox m ≡ h.ids = machine_self pt.view.inbox m (without_front y.id (pt.view.inbox m)) ∙ front_off y.id h.ids (pt.view.inbox m) h.box in
     let gone : FrontGone m h.ids pt.view next.view = search (front_rest m h.ids pt.view next.view box, machine_off) in
@@ -54,7 +65,7 @@ here_already b m pt l records k y machine h at_m is =
       routes = [];
       late = Nothing;
       turn = turn_hears b m pt l records k z h (turned s (Part.Says (Line.Here y.id) ∷ []))
-          (to_process b s z (Some (Record.Here x)) loose is_here ∙ ap (λ (c : Bool). if c then turned s (Part.Says (Line.Here y.id) ∷ []) else freezes s p x machine) to_here);
+          (to_process b s z (Some (Record.Here x)) loose is_here ∙ resident_migrates s y machine x ∙ ap (λ (c : Bool). if c then turned s (Part.Says (Line.Here y.id) ∷ []) else freezes s p x machine) to_here);
       outcome = outcome_hears b m pt l records k z h (Some (rule.Says (Line.Here y.id) ∷ [])) (here_hears b pt m y.id (told_of z) loose at_m
           ∙ ap (λ (c : Bool). Some (if c then rule.Says (Line.Here y.id) ∷ [] else rule.Says (Line.Migration Stage.Frozen p) ∷ rule.Says (Line.Migration Stage.Asked p) ∷ to_kernel MessageKind.Ask machine ∷ [])) same);
       next = next;
@@ -77,14 +88,14 @@ pub taken_at_record : (pt next : Point) (m : ℕ) (p q : Pid) (n : Known) → ne
     → next.view.known m q ≡ at_record pt.view.known m p n m q → takes_room n ≡ takes_room (pt.view.known m p) → taken_by next m q ≡ taken_by pt m q
 taken_at_record pt next m p q n lives known same = grind (arith, nat_tests, pid_eq-is, record_self, pid_eq-same, record_others)
 
--- where a process has been frozen, and the other machine asked
+-- where it has been frozen, and the other machine asked
 abbrev pub off_view : Point → ℕ → Pid → List MsgId → ℕ → View
 off_view pt m p box to = view.frozen_for (record (begun pt m).view { inbox = at_machine pt.view.inbox m box }) p to
 
-abbrev pub off_state : KernelState → List Message → Pid → Process → ℕ → Option Asker → KernelState
+abbrev pub off_state : KernelState → List Message → Pid → Resident → ℕ → Option Asker → KernelState
 off_state k rest p x machine asker = with_sent (with_frozen (record k { inbox = rest }) p x machine asker)
 
-abbrev pub off_ask : KernelState → ℕ → Process → Option Asker → Message
+abbrev pub off_ask : KernelState → ℕ → Resident → Option Asker → Message
 off_ask k machine x asker = own k (kernel_at machine) (ask_of x asker)
 
 -- both kernels stay but for the message that goes, and for who waits to hear
@@ -96,17 +107,16 @@ pub record Spared (s t : OneKernel) (l on : Placed) : Type 0 where
   pub board : on.board ≡ l.board
   pub manager : on.manager ≡ l.manager
 
--- a process that is here is frozen, and another machine is asked: told to move or asked to, and after these lines
+-- a process or a server that is here is frozen, and another machine is asked: told to move or asked to, and after these lines
 pub record SetsOff (b : Boot) (m : ℕ) (pt : Point) (l : Placed) (records : AllRecords) (k : KernelState) (p : Pid) (machine : ℕ) (asker : Option Asker) (says : List Line) (t : OneKernel) (a : Addresses) (box : List MsgId)
     (to : ℕ) (on : Placed) : Type 0 where
   pub before : Present b m pt l records k
   pub open before use *
-  pub process : Process
-  pub is : k.records p ≡ Some (Record.Here process)
-  pub here : HereStands l p (pt.view.queue m p) process
-  pub whole : CanMove process
+  pub resident : Resident
+  pub is : k.records p ≡ Some (Record.Here resident)
+  pub here : HereStands l p (pt.view.queue m p) resident
+  pub whole : CanMove resident
   pub at_m : pt.view.known m p ≡ Here
-  pub server : is_server p ≡ false
   pub to_is : to ≡ machine
   -- the message at the front has gone from the inbox
   pub front : MsgId
@@ -116,8 +126,8 @@ pub record SetsOff (b : Boot) (m : ℕ) (pt : Point) (l : Placed) (records : All
   pub rest : List Message
   pub others : AreMessages l.bag ids rest
   -- what the machine does, and what the lines come to
-  pub turn : turns b k k.inbox ≡ Some (record { state = off_state k rest p process machine asker; parts = map Part.Says says ++ map part_of (Own (off_ask k machine process asker) ∷ []) ++ late_parts Nothing })
-  pub outcome : outcome b pt (Step.Turn m) ≡ Some (map rule.Says says ++ map rule_part_of (Own (off_ask k machine process asker) ∷ []) ++ late_rule_parts Nothing)
+  pub turn : turns b k k.inbox ≡ Some (record { state = off_state k rest p resident machine asker; parts = map Part.Says says ++ map part_of (Own (off_ask k machine resident asker) ∷ []) ++ late_parts Nothing })
+  pub outcome : outcome b pt (Step.Turn m) ≡ Some (map rule.Says says ++ map rule_part_of (Own (off_ask k machine resident asker) ∷ []) ++ late_rule_parts Nothing)
   pub after : after (begun pt m) says ≡ Some (record { kernel = t; view = off_view pt m p box to; addresses = a })
   pub on_mirrors : Mirrors t (off_view pt m p box to) a on
   pub spared : Spared pt.kernel t l on
@@ -133,8 +143,9 @@ pub sets_off : (b : Boot) (m : ℕ) (pt : Point) (l : Placed) (records : AllReco
     → SetsOff b m pt l records k p machine asker says t a box to on → TurnsAt b m pt l records k
 sets_off b m pt l records k p machine asker says t a box to on h =
     let v = pt.view in
-    let x = h.process in
-    let x_is : x.pid ≡ p = (h.mirrors.places.process p (record x { queue = h.here.0.0 }) h.here.0.1).pid in
+    let x = h.resident in
+    let x_is : residents.name_of x ≡ p = (here_is pt.kernel v pt.addresses l p (v.queue m p) x h.mirrors h.here).name in
+    let stays : (q : Pid) → resident_at on q ≡ resident_at l q = λ q. resident_same l on q (h.processes q) h.board h.manager in
     let state : KernelState = off_state k h.rest p x machine asker in
     let ask : Message = off_ask k machine x asker in
     let next : Point = record { kernel = t; view = off_view pt m p box to; addresses = a } in
@@ -146,8 +157,8 @@ sets_off b m pt l records k p machine asker says t a box to on h =
     let frozen_record : state.records p ≡ Some (Record.Frozen (frozen x machine asker)) =
     ap (λ (c : Bool). if c then Some (Record.Frozen (frozen x machine asker)) else k.records p) (pid_eq-same p) in
     let queued : HereStands on p (v.queue m p) x =
-    ((h.here.0.0, h.processes p ∙ h.here.0.1), map_same l.bag on.bag (v.queue m p) (λ j least. h.kept (Queue m p) j (queue_apart m m p) least) ∙ h.here.1) in
-    let cargo : cargo_at on p ≡ Some (cargo_of x asker) = λ i. option_map (λ (z : Process). cargo_of z (h.note i)) (queued.0.1 i) in
+    ((h.here.0.0, stays p ∙ h.here.0.1), map_same l.bag on.bag (v.queue m p) (λ j least. h.kept (Queue m p) j (queue_apart m m p) least) ∙ h.here.1) in
+    let cargo : cargo_at on p ≡ Some (cargo_of x asker) = (λ i. option_map (λ (z : Resident). cargo_of z (h.note i)) (queued.0.1 i)) ∙ ap Some (cargo_queue queued.0.0 x asker) in
     let leaves : LeavesStand on p (v.queue m p) (v.held m p) machine (frozen x machine asker) =
     search (cargo, queued, ap (map on.bag) none_held, h.whole) in
     let mine : KnownStands on p (v.queue m p) (v.held m p) (next.view.known m p) (state.records p) =
@@ -158,7 +169,6 @@ sets_off b m pt l records k p machine asker says t a box to on h =
     let id_first : ask.id ≡ own_behind next.view 0 = id_is ∙ own_first next.view in
     let sets : (q : Pid) → pid_eq p q ≡ false → state.records q ≡ k.records q =
     λ q off. ap (λ (c : Bool). if c then Some (Record.Frozen (frozen x machine asker)) else k.records q) off in
-    let keeps : is_server p ≡ true → state.records p ≡ k.records p = λ is. absurd (false≢true (sym h.server ∙ is)) in
     let queues : (q : Pid) (j : MsgId) → pid_eq p q ≡ false → 1 ≤ times j (v.queue m q) → on.bag j ≡ l.bag j =
     λ q j off least. h.kept (Queue m q) j (queue_apart m m q) least in
     let holds : (q : Pid) (j : MsgId) → pid_eq p q ≡ false → 1 ≤ times j (v.held m q) → on.bag j ≡ l.bag j =
@@ -169,7 +179,8 @@ sets_off b m pt l records k p machine asker says t a box to on h =
     let e = stood m h.front h.ids v next.view i z h.first gone least in
     elim (spot_cases e.spot (Inbox m)) [ inl is ↦ h.behind i (e.behind is) | inr off ↦ h.kept e.spot i off e.stands ]) in
     let kept : (n from : ℕ) → is_waited_from from (next.view.known n p) ≡ true → is_waited_from from (v.known n p) ≡ true = λ n from waits. record_kept v.known m p p (Frozen to) (λ c. refl) n from waits in
-    let processes : (q : Pid) → pid_eq p q ≡ false → on.processes q ≡ l.processes q = λ q off. h.processes q in
+    let others : (q : Pid) → pid_eq p q ≡ false → resident_at on q ≡ resident_at l q = λ q off. stays q in
+    let system : SameSystem l on = same_manager l on h.manager in
     record {
       state = state;
       says = says;
@@ -181,17 +192,17 @@ sets_off b m pt l records k p machine asker says t a box to on h =
       after = h.after;
       placed = on;
       mirrors = h.on_mirrors;
-      kernel = stands_set b pt next l on m k state p (search (sets, record_others, processes, h.notes, queues, holds, mine, keeps)) h.stands
+      kernel = stands_set b pt next l on m k state p (search (sets, record_others, others, system, h.notes, queues, holds, mine)) h.stands
           (ap (without p) h.stands.ring ∙ sym (machine_self v.ring m (without p (v.ring m))))
           (ap (map on.bag) box_is ∙ map_same l.bag on.bag h.ids h.behind ∙ h.others) (h.stands.made ∙ sym (h.made m))
-          (room_stays k.room _ _ _ taken h.stands.room)
-          (h.stands.servers ∙ (λ i. if m == 0 then Some (record { board = sym h.board i; manager = sym h.manager i }) else None)) h.stands.preds;
+          (room_stays k.room _ _ _ taken h.stands.room) h.stands.preds;
       sent = λ e. ap (λ (n : ℕ). n + 1) e;
       elsewhere = search (
         machine_off,
         record_off,
         h.made,
-        h.processes,
+        stays,
+        system,
         h.lives,
         λ (n : ℕ) (q : Pid) (off : n ≢ m) (has : has_process (pt.view.known n q) ≡ true). h.notes q (here_left pt m p q h.run.based.phased.phases h.at_m (Elsewhere n off has)),
         λ (j : MsgId) (z : Spot) (is : is_elsewhere m z ≡ true) (least : 1 ≤ standing (begun pt m).view j z). h.kept z j (elsewhere_apart m z is) (subst (λ (n : ℕ). 1 ≤ n) (standing_begun pt m j z) least),
@@ -210,7 +221,7 @@ sets_off b m pt l records k p machine asker says t a box to on h =
             stays = record {
               told = refl;
               asked = λ q off. refl;
-              processes = processes;
+              residents = others;
               notes = h.notes;
               records = λ n q off. records_as records m n k.records state.records q h.records_here (sets q off);
               known = λ n q off. record_apart v.known m n p q (Frozen to) off;
@@ -220,35 +231,33 @@ sets_off b m pt l records k p machine asker says t a box to on h =
                 let e = stood m h.front h.ids v next.view i z h.first gone least in
                 let off = rests_over b pt m p i u e.spot h.run h.at_m told between about e.stands in
                 let was = (h.tokens p i u e.spot told between about e.stands).1 off in
-                (still_over v next.view p i u off kept, left_asks l on p i was (h.processes p) (same i z least ∙ was.is)));
+                (still_over v next.view p i u off kept, left_asks l on p i was (stays p) (same i z least ∙ was.is)));
           }) h.tokens;
     }
 
 -- to another machine
--- nobody waits to hear of a process that is here
+-- nobody waits to hear of what is here
 asks_other : (b : Boot) (m : ℕ) (pt : Point) (l : Placed) (records : AllRecords) (k : KernelState) (y : Message) (machine : ℕ)
     → Hearing b m pt l records k (record y { what = What.Migrate machine }) → pt.view.known m y.to.pid ≡ Here → m ≢ machine
-    → ((x : Process) → k.records y.to.pid ≡ Some (Record.Here x) → CanMove x) → TurnsAt b m pt l records k
+    → ((x : Resident) → k.records y.to.pid ≡ Some (Record.Here x) → CanMove x) → TurnsAt b m pt l records k
 asks_other b m pt l records k y machine h at_m apart whole =
     let z : Message = record y { what = What.Migrate machine } in
     let v = pt.view in
     let p = y.to.pid in
     let s : KernelState = record k { inbox = h.rest } in
     let loose = migrates_loose b m pt l records k y machine h in
-    let server : is_server p ≡ false = or-right (p.num == 0) (is_server p) loose in
-    let (x, is_here, stands) = recorded b pt l m k p Here h.stands server at_m in
+    let (x, is_here, stands) = recorded b pt l m k p Here h.stands at_m in
     let to : ℕ = target_of (option_and_then v.told (slice_get (v.inbox m) 0)) in
     let next : Point = moved (moved (begun pt m) (Line.Migration Stage.Frozen p) pt.kernel) (Line.Migration Stage.Asked p) pt.kernel in
     let off_here : (machine == k.here) ≡ false = ap (λ (n : ℕ). machine == n) h.stands.here ∙ eq_not machine m (λ e. apart (sym e)) in
     let off_rule : (m == machine) ≡ false = eq_not m machine apart in
     sets_off b m pt l records k p machine None (Line.Migration Stage.Frozen p ∷ Line.Migration Stage.Asked p ∷ []) pt.kernel pt.addresses (drop 1 (v.inbox m)) to l (record {
       before = h.present;
-      process = x;
+      resident = x;
       is = is_here;
       here = stands;
       whole = whole x is_here;
       at_m = at_m;
-      server = server;
       to_is = ap (λ (ids : List MsgId). target_of (option_and_then v.told (slice_get ids 0))) h.box ∙ ap target_of h.told;
       front = y.id;
       ids = h.ids;
@@ -257,7 +266,7 @@ asks_other b m pt l records k y machine h at_m apart whole =
       rest = h.rest;
       others = h.others;
       turn = turn_hears b m pt l records k z h (freezes s p x machine)
-          (to_process b s z (Some (Record.Here x)) loose is_here ∙ ap (λ (c : Bool). if c then turned s (Part.Says (Line.Here y.id) ∷ []) else freezes s p x machine) off_here);
+          (to_process b s z (Some (Record.Here x)) loose is_here ∙ resident_migrates s y machine x ∙ ap (λ (c : Bool). if c then turned s (Part.Says (Line.Here y.id) ∷ []) else freezes s p x machine) off_here);
       outcome = outcome_hears b m pt l records k z h (Some (leaves_for p machine))
           (here_hears b pt m y.id (told_of z) loose at_m ∙ ap (λ (c : Bool). Some (if c then rule.Says (Line.Here y.id) ∷ [] else leaves_for p machine)) off_rule);
       after = refl;
@@ -271,11 +280,10 @@ asks_other b m pt l records k y machine h at_m apart whole =
       back = λ j w none there. there;
     })
 
--- the process can be carried whole, where it is sent off
-whole_here : (b : Boot) (m : ℕ) (k : KernelState) (y : Message) (machine : ℕ) (x : Process) → is_fixed y.to.pid ≡ false → k.here ≡ m → m ≢ machine → FreezesReceiverWhole k (record y { what = What.Migrate machine }) → k.records y.to.pid ≡ Some (Record.Here x) → CanMove x
+-- it can be carried whole, where it is sent off
+whole_here : (b : Boot) (m : ℕ) (k : KernelState) (y : Message) (machine : ℕ) (x : Resident) → is_fixed y.to.pid ≡ false → k.here ≡ m → m ≢ machine → FreezesReceiverWhole k (record y { what = What.Migrate machine }) → k.records y.to.pid ≡ Some (Record.Here x) → CanMove x
 whole_here b m k y machine x loose at_m apart whole is =
-    let (num, board, manage) = three_off (y.to.pid.num == 0) (pid_eq y.to.pid switchboard) (pid_eq y.to.pid manager) loose in
-    subst (KnownIsWhole k.here (What.Migrate machine)) is (whole num board manage) (λ e. apart (sym (e ∙ at_m)))
+    subst (KnownIsWhole k.here (What.Migrate machine)) is (whole loose) (λ e. apart (sym (e ∙ at_m)))
 
 pub hears_migrate : (b : Boot) (m : ℕ) (pt : Point) (l : Placed) (records : AllRecords) (k : KernelState) (y : Message) (machine : ℕ) → Hearing b m pt l records k y → y.what ≡ What.Migrate machine → pt.view.known m y.to.pid ≡ Here → FreezesReceiverWhole k y → TurnsAt b m pt l records k
 hears_migrate b m pt l records k y machine h is at_m whole =
@@ -288,15 +296,12 @@ hears_migrate b m pt l records k y machine h is at_m whole =
           (λ x there. whole_here b m k y machine x (migrates_loose b m pt l records k y machine g) h.stands.here e.1 (subst (FreezesReceiverWhole k) same whole) there)
     ]
 
--- A piece of a process that leaves goes to the machine that asks for it.
+-- A piece of what leaves goes to the machine that asks for it.
 
-pub leaves_no_server : (b : Boot) (pt : Point) (m to : ℕ) (p : Pid) → Run b pt → pt.view.known m p ≡ Frozen to → is_server p ≡ false
-leaves_no_server b pt m to p run known = grind (arith, nat_tests)
-
--- the record of a process that leaves
+-- the record of what leaves
 pub departing : (b : Boot) (m : ℕ) (pt : Point) (l : Placed) (records : AllRecords) (k : KernelState) (y : Message) (p : Pid) → Hearing b m pt l records k y → (g : Leaving m pt y p)
     → Recorded l p (pt.view.queue m p) (pt.view.held m p) (Frozen g.to) (k.records p)
-departing b m pt l records k y p h g = recorded b pt l m k p (Frozen g.to) h.stands (leaves_no_server b pt m g.to p h.run g.known) g.known
+departing b m pt l records k y p h g = recorded b pt l m k p (Frozen g.to) h.stands g.known
 
 -- what is heard carries what it was sent with
 pub record Carried (pt : Point) (l : Placed) (records : AllRecords) (p : Pid) (y : Message) : Type 0 where
@@ -317,7 +322,7 @@ carried b m pt l records k y p h between about due =
 pub kernel_number : (m : ℕ) (p : Pid) → p ≡ pid_of m 0 → (p.num == 0) ≡ true
 kernel_number m p e = ap (λ (q : Pid). q.num == 0) e
 
--- what the piece is: a message of the source about the process
+-- what the piece is: a message of the source about it
 pub record IsPiece (p : Pid) (w : What) : Type 0 where
   pub about : about_of w ≡ Of p
   pub plain : plain_what w ≡ None
@@ -381,7 +386,6 @@ gives b m pt l records k y p w h receiver sender piece turn hears proto carries 
           (λ i t spot told between least. let d = stood m y.id h.ids v next.view i spot h.box gone least in (d.spot, d.stands)) h.tokens;
     }
 
--- while it leaves a process is alive
 pub no_piece : (k : MessageKind) → is_piece (sort_of k) ≡ false → brings_piece (sort_of k) ≡ false
 no_piece k e = or_second (pulls_piece (sort_of k)) (brings_piece (sort_of k)) e
   where
@@ -398,13 +402,14 @@ pub piece_goes_on : (k : MessageKind) → brings_piece (sort_of k) ≡ true → 
 piece_goes_on MessageKind.Bury e = absurd (false≢true e)
 piece_goes_on _ e = refl
 
-pub leaves_alive : (b : Boot) (m : ℕ) (pt : Point) (l : Placed) (p : Pid) (x : Process) (i : MsgId) (k : MessageKind) (o : Option (List rule.Part)) → l.processes p ≡ Some x → kernel.alive (pt.kernel.processes p) ≡ option_map plain_process (l.processes p) → tells_end (sort_of k) ≡ false → brings_piece (sort_of k) ≡ false
-    → told_step pt m i p (fits (free_room b pt m) (length x.memory / 256)) (plain_process x) (sort_of k) ≡ o → kernel_hears b pt m i k (Of p) ≡ o
-leaves_alive b m pt l p x i k o there plain lives none told =
-    let step : PlainProcess → Option (List rule.Part) = λ z. told_step pt m i p (fits (free_room b pt m) (length z.memory / 256)) z (sort_of k) in
-    ap (λ (d : Bool). if d then Some (buried pt m i p) else if is_stale pt m i k p then Some (rule.Says (Line.Stale i) ∷ []) else bind (kernel.alive (pt.kernel.processes p)) step) lives
-    ∙ ap (λ (d : Bool). if d && not (is_waited_from i.from.home (pt.view.known m p)) then Some (rule.Says (Line.Stale i) ∷ []) else bind (kernel.alive (pt.kernel.processes p)) step) none
-    ∙ ap (λ (q : Option PlainProcess). bind q step) (plain ∙ ap (option_map plain_process) there) ∙ told
+-- what leaves is there
+pub leaves_alive : (b : Boot) (m : ℕ) (pt : Point) (p : Pid) (x : Size) (i : MsgId) (k : MessageKind) (o : Option (List rule.Part)) → size_of pt.kernel p ≡ Some x → tells_end (sort_of k) ≡ false → brings_piece (sort_of k) ≡ false
+    → told_step pt m i p (fits (free_room b pt m) x.blocks) x (sort_of k) ≡ o → kernel_hears b pt m i k (Of p) ≡ o
+leaves_alive b m pt p x i k o there lives none told =
+    let step : Size → Option (List rule.Part) = λ z. told_step pt m i p (fits (free_room b pt m) z.blocks) z (sort_of k) in
+    ap (λ (d : Bool). if d then Some (buried pt m i p) else if is_stale pt m i k p then Some (rule.Says (Line.Stale i) ∷ []) else bind (size_of pt.kernel p) step) lives
+    ∙ ap (λ (d : Bool). if d && not (is_waited_from i.from.home (pt.view.known m p)) then Some (rule.Says (Line.Stale i) ∷ []) else bind (size_of pt.kernel p) step) none
+    ∙ ap (λ (q : Option Size). bind q step) there ∙ told
 
 -- a piece that is due carries what it is to
 due_carried : (m : ℕ) (pt : Point) (l : Placed) (records : AllRecords) (k s : KernelState) (y : Message) (p : Pid) (w : What) → records m ≡ k.records → IsPiece p w → (c : Carried pt l records p y) → Carries p c.cargo (pt.view.asked p) (incoming_of (records y.id.from.home p)) w
@@ -450,7 +455,7 @@ remains b m pt l records k y p h between about pulls off =
     let phases = h.run.based.phased.phases in
     let first = stands_first b m pt l records k y h in
     let u = pulled_here v p (phases.of p) y.id (told_of y) m (phases.each p) (over_of v phases p y.id (told_of y) (Inbox m) h.told between about first off) pulls first in
-    let (departure, is, stands) = recorded b pt l m k p (Frozen u.d) h.stands (leaves_no_server b pt m u.d p h.run u.known) u.known in
+    let (departure, is, stands) = recorded b pt l m k p (Frozen u.d) h.stands u.known in
     let x = (h.tokens p y.id (told_of y) (Inbox m) h.told between about first).1 off in
     record { here = u; departure = departure; is = is; stands = stands; sender = ap (λ (z : Message). z.sender) (sym (some_same x.message y (sym x.is ∙ h.there))) ∙ x.sender }
 
@@ -468,14 +473,14 @@ chunk_due b m pt l records k y p chunk h due =
     let g = leaving b m pt l records k z p h refl refl refl refl due in
     let (departure, record_is, stands) = departing b m pt l records k z p h g in
     let c = carried b m pt l records k z p h refl refl due in
-    let x = departure.process in
+    let x = departure.resident in
     let same : cargo_of x departure.asker ≡ c.cargo = same_cargo (cargo_of x departure.asker) c.cargo (sym stands.cargo ∙ c.there) in
-    let name : x.pid ≡ p = (h.mirrors.places.process p (record x { queue = stands.here.0.0 }) stands.here.0.1).pid in
-    let piece = chunk_piece p x.pid (state_of x) chunk name in
-    gives b m pt l records k z p (chunk_of x.pid (state_of x) chunk) h g.receiver c.sender piece
-    (ap (λ (r : Option machine.KernelKnown). bind (frozen_of r) (λ (e : Departure). gives_piece s z (chunk_of e.process.pid (state_of e.process) chunk))) record_is)
-    (leaves_alive b m pt l p (record x { queue = stands.here.0.0 }) y.id MessageKind.PullState (Some (migrating.gives_piece y.id MessageKind.State)) stands.here.0.1 (h.mirrors.plain.processes p) refl refl refl)
-    refl (inl (due_carried m pt l records k s z p (chunk_of x.pid (state_of x) chunk) h.records_here piece c (ap (λ (u : Cargo). chunk_of u.pid u.state chunk) same, c.carries.1, c.carries.2)))
+    let name : residents.name_of x ≡ p = (here_is pt.kernel pt.view pt.addresses l p (pt.view.queue m p) x h.mirrors stands.here).name in
+    let piece = chunk_piece p (residents.name_of x) (state_of x) chunk name in
+    gives b m pt l records k z p (chunk_of (residents.name_of x) (state_of x) chunk) h g.receiver c.sender piece
+    (ap (λ (r : Option machine.KernelKnown). bind (frozen_of r) (λ (e : Departure). gives_piece s z (chunk_of (residents.name_of e.resident) (state_of e.resident) chunk))) record_is)
+    (leaves_alive b m pt p (size_at x) y.id MessageKind.PullState (Some (migrating.gives_piece y.id MessageKind.State)) (here_sized pt.kernel l p (pt.view.queue m p) x h.mirrors.plain stands.here) refl refl refl)
+    refl (inl (due_carried m pt l records k s z p (chunk_of (residents.name_of x) (state_of x) chunk) h.records_here piece c (ap (λ (u : Cargo). chunk_of u.pid u.state chunk) same, c.carries.1, c.carries.2)))
 
 chunk_left : (b : Boot) (m : ℕ) (pt : Point) (l : Placed) (records : AllRecords) (k : KernelState) (y : Message) (p : Pid) (chunk : ℕ) → Hearing b m pt l records k (record y { what = What.PullState p chunk }) → is_due_piece pt.view p y.id (told_of (record y { what = What.PullState p chunk })) ≡ false
     → TurnsAt b m pt l records k
@@ -483,14 +488,13 @@ chunk_left b m pt l records k y p chunk h off =
     let z : Message = record y { what = What.PullState p chunk } in
     let s : KernelState = record k { inbox = h.rest } in
     let g = remains b m pt l records k z p h refl refl refl off in
-    let x = g.departure.process in
-    let there = g.stands.here.0.1 in
-    let name : x.pid ≡ p = (h.mirrors.places.process p (record x { queue = g.stands.here.0.0 }) there).pid in
-    let piece = chunk_piece p x.pid (state_of x) chunk name in
-    gives b m pt l records k z p (chunk_of x.pid (state_of x) chunk) h g.here.receiver g.sender piece
-    (ap (λ (r : Option machine.KernelKnown). bind (frozen_of r) (λ (e : Departure). gives_piece s z (chunk_of e.process.pid (state_of e.process) chunk))) g.is)
-    (leaves_alive b m pt l p (record x { queue = g.stands.here.0.0 }) y.id MessageKind.PullState (Some (migrating.gives_piece y.id MessageKind.State)) there (h.mirrors.plain.processes p) refl refl refl)
-    refl (inr (left_carried m pt.view l s z p (chunk_of x.pid (state_of x) chunk) (told_of z) g.here h.stands.here g.sender piece refl name))
+    let x = g.departure.resident in
+    let name : residents.name_of x ≡ p = (here_is pt.kernel pt.view pt.addresses l p (pt.view.queue m p) x h.mirrors g.stands.here).name in
+    let piece = chunk_piece p (residents.name_of x) (state_of x) chunk name in
+    gives b m pt l records k z p (chunk_of (residents.name_of x) (state_of x) chunk) h g.here.receiver g.sender piece
+    (ap (λ (r : Option machine.KernelKnown). bind (frozen_of r) (λ (e : Departure). gives_piece s z (chunk_of (residents.name_of e.resident) (state_of e.resident) chunk))) g.is)
+    (leaves_alive b m pt p (size_at x) y.id MessageKind.PullState (Some (migrating.gives_piece y.id MessageKind.State)) (here_sized pt.kernel l p (pt.view.queue m p) x h.mirrors.plain g.stands.here) refl refl refl)
+    refl (inr (left_carried m pt.view l s z p (chunk_of (residents.name_of x) (state_of x) chunk) (told_of z) g.here h.stands.here g.sender piece refl name))
 
 pub gives_chunk : (b : Boot) (m : ℕ) (pt : Point) (l : Placed) (records : AllRecords) (k : KernelState) (y : Message) (p : Pid) (chunk : ℕ) → Hearing b m pt l records k (record y { what = What.PullState p chunk })
     → TurnsAt b m pt l records k
@@ -507,14 +511,14 @@ block_due b m pt l records k y p block h due =
     let g = leaving b m pt l records k z p h refl refl refl refl due in
     let (departure, record_is, stands) = departing b m pt l records k z p h g in
     let c = carried b m pt l records k z p h refl refl due in
-    let x = departure.process in
+    let x = departure.resident in
     let same : cargo_of x departure.asker ≡ c.cargo = same_cargo (cargo_of x departure.asker) c.cargo (sym stands.cargo ∙ c.there) in
-    let name : x.pid ≡ p = (h.mirrors.places.process p (record x { queue = stands.here.0.0 }) stands.here.0.1).pid in
-    let piece = block_piece p x.pid x.memory block name in
-    gives b m pt l records k z p (block_of x.pid x.memory block) h g.receiver c.sender piece
-    (ap (λ (r : Option machine.KernelKnown). bind (frozen_of r) (λ (e : Departure). gives_piece s z (block_of e.process.pid e.process.memory block))) record_is)
-    (leaves_alive b m pt l p (record x { queue = stands.here.0.0 }) y.id MessageKind.PullBlock (Some (migrating.gives_piece y.id MessageKind.Memory)) stands.here.0.1 (h.mirrors.plain.processes p) refl refl refl)
-    refl (inl (due_carried m pt l records k s z p (block_of x.pid x.memory block) h.records_here piece c (ap (λ (u : Cargo). block_of u.pid u.memory block) same, c.carries.1, c.carries.2)))
+    let name : residents.name_of x ≡ p = (here_is pt.kernel pt.view pt.addresses l p (pt.view.queue m p) x h.mirrors stands.here).name in
+    let piece = block_piece p (residents.name_of x) (residents.memory_of x) block name in
+    gives b m pt l records k z p (block_of (residents.name_of x) (residents.memory_of x) block) h g.receiver c.sender piece
+    (ap (λ (r : Option machine.KernelKnown). bind (frozen_of r) (λ (e : Departure). gives_piece s z (block_of (residents.name_of e.resident) (residents.memory_of e.resident) block))) record_is)
+    (leaves_alive b m pt p (size_at x) y.id MessageKind.PullBlock (Some (migrating.gives_piece y.id MessageKind.Memory)) (here_sized pt.kernel l p (pt.view.queue m p) x h.mirrors.plain stands.here) refl refl refl)
+    refl (inl (due_carried m pt l records k s z p (block_of (residents.name_of x) (residents.memory_of x) block) h.records_here piece c (ap (λ (u : Cargo). block_of u.pid u.memory block) same, c.carries.1, c.carries.2)))
 
 block_left : (b : Boot) (m : ℕ) (pt : Point) (l : Placed) (records : AllRecords) (k : KernelState) (y : Message) (p : Pid) (block : ℕ) → Hearing b m pt l records k (record y { what = What.PullBlock p block }) → is_due_piece pt.view p y.id (told_of (record y { what = What.PullBlock p block })) ≡ false
     → TurnsAt b m pt l records k
@@ -522,14 +526,13 @@ block_left b m pt l records k y p block h off =
     let z : Message = record y { what = What.PullBlock p block } in
     let s : KernelState = record k { inbox = h.rest } in
     let g = remains b m pt l records k z p h refl refl refl off in
-    let x = g.departure.process in
-    let there = g.stands.here.0.1 in
-    let name : x.pid ≡ p = (h.mirrors.places.process p (record x { queue = g.stands.here.0.0 }) there).pid in
-    let piece = block_piece p x.pid x.memory block name in
-    gives b m pt l records k z p (block_of x.pid x.memory block) h g.here.receiver g.sender piece
-    (ap (λ (r : Option machine.KernelKnown). bind (frozen_of r) (λ (e : Departure). gives_piece s z (block_of e.process.pid e.process.memory block))) g.is)
-    (leaves_alive b m pt l p (record x { queue = g.stands.here.0.0 }) y.id MessageKind.PullBlock (Some (migrating.gives_piece y.id MessageKind.Memory)) there (h.mirrors.plain.processes p) refl refl refl)
-    refl (inr (left_carried m pt.view l s z p (block_of x.pid x.memory block) (told_of z) g.here h.stands.here g.sender piece refl name))
+    let x = g.departure.resident in
+    let name : residents.name_of x ≡ p = (here_is pt.kernel pt.view pt.addresses l p (pt.view.queue m p) x h.mirrors g.stands.here).name in
+    let piece = block_piece p (residents.name_of x) (residents.memory_of x) block name in
+    gives b m pt l records k z p (block_of (residents.name_of x) (residents.memory_of x) block) h g.here.receiver g.sender piece
+    (ap (λ (r : Option machine.KernelKnown). bind (frozen_of r) (λ (e : Departure). gives_piece s z (block_of (residents.name_of e.resident) (residents.memory_of e.resident) block))) g.is)
+    (leaves_alive b m pt p (size_at x) y.id MessageKind.PullBlock (Some (migrating.gives_piece y.id MessageKind.Memory)) (here_sized pt.kernel l p (pt.view.queue m p) x h.mirrors.plain g.stands.here) refl refl refl)
+    refl (inr (left_carried m pt.view l s z p (block_of (residents.name_of x) (residents.memory_of x) block) (told_of z) g.here h.stands.here g.sender piece refl name))
 
 pub gives_block : (b : Boot) (m : ℕ) (pt : Point) (l : Placed) (records : AllRecords) (k : KernelState) (y : Message) (p : Pid) (block : ℕ) → Hearing b m pt l records k (record y { what = What.PullBlock p block })
     → TurnsAt b m pt l records k

@@ -4,7 +4,7 @@ use Rattle.dm_mirror.proofs.Names.{bind, Boot, Step, handles, KernelState, Turne
 use Rattle.dm_mirror.proofs.Names.{outcome, Spot, Queue, Held, Inbox, Untaken, standing, times, Here, Frozen, Of, Told, View, is_kernels, letters, rests_here, token_at, StandsAsBag-one, StandsAsBag-elsewhere, spot_cases, OwnTold, Run}
 use Rattle.dm_mirror.proofs.Names.{Placed, Mirrors, AllOwnStand, about_of, told_of, AreMessages, KernelStands, AllRecords, TokensStand, eq_self, source_knows, inbox_is, more_front, holds_is, ◌||◌, [], refl, Addr, pid_eq, place_of}
 use Rattle.dm_mirror.proofs.Names.{nat_tests, kernel_at, id_of, MessageKind, PlainMessage, process_handles, Gets, Receiver, Sender, gets, given, own_given, unmoved, process_told, kernel_hears, at_machine, Known, not_kernels, is_fixed}
-use Rattle.dm_mirror.proofs.Names.{enclosed, about_same, cases_Bool, pid_eq-is, sort_of, What, false≢true, LeftStands, is_due_piece, is_waited_from, is_server, manager, switchboard, told_here, or-left}
+use Rattle.dm_mirror.proofs.Names.{enclosed, about_same, cases_Bool, pid_eq-is, sort_of, What, false≢true, LeftStands, is_due_piece, is_waited_from, told_here, resident_at}
 use Rattle.dm_mirror.proofs.Handle.Taking.{front_of, times_self, machine_self, machine_off, some_same}
 use Rattle.dm_mirror.proofs.Turning.{IsCarried, IsLeftOver, MayOwn, own_behind}
 pub use Rattle.dm_mirror.proofs.Handle.Taking.{to_kernel}
@@ -13,7 +13,7 @@ use Rattle.dm_rule.specs.Rule as ruled
 use Rattle.dm_kernel.specs.State as machine
 use Rattle.dm_mirror.proofs.Cargoes.{cargo_same}
 use Rattle.dm_mirror.proofs.LeftOver.{IsDue, IsOver, OneStands, Which, due_of, known_due, left_asks, left_keeps, one_keeps, still_over, token_same, which}
-use Rattle.dm_mirror.proofs.Handle.Taking.{to_known, no_server}
+use Rattle.dm_mirror.proofs.Handle.Taking.{to_known}
 
 -- what stands of machine m and its kernel
 pub record Present (b : Boot) (m : ℕ) (pt : Point) (l : Placed) (records : AllRecords) (k : KernelState) : Type 0 where
@@ -126,7 +126,7 @@ front_nowhere b m pt l records k y h w z g least =
       | inr off ↦ (let none = not_elsewhere b m pt l records k y h s.spot off in let some = s.stands in absurd (omega (arith, none, some)))
     ]
 
--- while a process is here only what is left over of its migrations stands anywhere
+-- while it is here only what is left over of its migrations stands anywhere
 over_at : (v : View) (m : ℕ) (p : Pid) (now : Phase) (i : MsgId) (t : Told) → now ≡ Rests m → Which v p now i t → is_due_piece v p i t ≡ false
 over_at v m p now i t rests (IsDue d due) = (let f : Rests m ≡ Moves d.kind d.s d.d (Some i) = sym rests ∙ d.phase in cc)
 over_at v m p now i t rests (IsOver left off) = off
@@ -137,7 +137,7 @@ rests_over b pt m p i t z run at_m told between about least =
     let phase = h.of p in
     over_at pt.view m p phase i t (rests_here phase m (sym (ap (knows phase m) at_m) ∙ (h.each p).known m)) (which pt.view h p i t z told between about least)
 
--- what the destination says of a migration is heard at the source, where the process leaves
+-- what the destination says of a migration is heard at the source, where it leaves
 pub record Leaving (m : ℕ) (pt : Point) (y : Message) (p : Pid) : Type 0 where
   pub to : ℕ
   pub known : pt.view.known m p ≡ Frozen to
@@ -182,7 +182,7 @@ leaving b m pt l records k y p h between source restart about due =
 
 -- what stands of its migration behind it is left over
 pub leaving_left : (b : Boot) (m : ℕ) (pt : Point) (l : Placed) (records : AllRecords) (k : KernelState) (y : Message) (p : Pid) (h : Hearing b m pt l records k y) → Leaving m pt y p → (w : View) (placed : Placed) → FrontGone m h.ids pt.view w
-    → ((n from : ℕ) → is_waited_from from (w.known n p) ≡ true → is_waited_from from (pt.view.known n p) ≡ true) → placed.processes p ≡ l.processes p
+    → ((n from : ℕ) → is_waited_from from (w.known n p) ≡ true → is_waited_from from (pt.view.known n p) ≡ true) → resident_at placed p ≡ resident_at l p
     → (i : MsgId) (t : Told) (z : Spot) → pt.view.told i ≡ Some t → is_between t.kind ≡ true → t.about ≡ Of p → 1 ≤ standing w i z → placed.bag i ≡ l.bag i → (is_due_piece w p i t ≡ false) × LeftStands placed p i
 leaving_left b m pt l records k y p h g w placed gone kept same i t z told between about least bag =
     let e = stood m y.id h.ids pt.view w i z h.box gone least in
@@ -253,21 +253,16 @@ may_between pt placed records m c p j x h =
       carried = λ between r of_r. subst (λ (z : Pid). IsCarried placed (pt.view.asked z) records z x ⊎ IsLeftOver pt.view placed z x) (about_same p r (sym h.about ∙ of_r)) h.carried;
     }
 
--- the receiver is a process, or the kernel
-pub three_off : (a b c : Bool) → (a || (b || c)) ≡ false → (a ≡ false) × (b ≡ false) × (c ≡ false)
-three_off a b c e = grind (arith, nat_tests)
-
+-- the receiver is a process or a server, or the kernel
 pub to_process : (b : Boot) (s : KernelState) (y : Message) (r : Option machine.KernelKnown) → is_fixed y.to.pid ≡ false → s.records y.to.pid ≡ r → handles b s y ≡ process_handles s y r
-to_process b s y r loose is = to_known b s y r (or-left (y.to.pid.num == 0) (is_server y.to.pid) loose) is
+to_process b s y r loose is = to_known b s y r loose is
 
 pub process_hears : (b : Boot) (pt : Point) (m : ℕ) (i : MsgId) (t : Told) (n : Known) → is_fixed t.receiver ≡ false → pt.view.known m t.receiver ≡ n → hears b pt m i (Some t) ≡ process_told pt m i t n
 process_hears b pt m i t n loose is =
-    ap (λ (c : Bool). if c then kernel_hears b pt m i t.kind t.about else process_told pt m i t (pt.view.known m t.receiver)) (or-left (t.receiver.num == 0) (is_server t.receiver) loose) ∙ ap (process_told pt m i t) is
+    ap (λ (c : Bool). if c then kernel_hears b pt m i t.kind t.about else process_told pt m i t (pt.view.known m t.receiver)) loose ∙ ap (process_told pt m i t) is
 
 pub here_hears : (b : Boot) (pt : Point) (m : ℕ) (i : MsgId) (t : Told) → is_fixed t.receiver ≡ false → pt.view.known m t.receiver ≡ Here → hears b pt m i (Some t) ≡ told_here pt m i t (sort_of t.kind)
-here_hears b pt m i t loose is =
-    let (num, one, two) = three_off (t.receiver.num == 0) (pid_eq t.receiver switchboard) (pid_eq t.receiver manager) loose in
-    process_hears b pt m i t Here loose is ∙ no_server (pid_eq t.receiver switchboard) (pid_eq t.receiver manager) _ _ _ one two
+here_hears b pt m i t loose is = process_hears b pt m i t Here loose is
 
 pub to_kernel_hears : (b : Boot) (pt : Point) (m : ℕ) (i : MsgId) (t : Told) → (t.receiver.num == 0) ≡ true → hears b pt m i (Some t) ≡ kernel_hears b pt m i t.kind t.about
 to_kernel_hears b pt m i t num = grind (arith, nat_tests)
@@ -282,7 +277,7 @@ records_as records m n f g q is same = grind (arith, nat_tests, eqb_tells, machi
 pub record TokensStay (v w : View) (l placed : Placed) (before after : AllRecords) (p : Pid) : Type 0 where
   pub told : w.told ≡ v.told
   pub asked : (q : Pid) → pid_eq p q ≡ false → w.asked q ≡ v.asked q
-  pub processes : (q : Pid) → pid_eq p q ≡ false → placed.processes q ≡ l.processes q
+  pub residents : (q : Pid) → pid_eq p q ≡ false → resident_at placed q ≡ resident_at l q
   pub notes : (q : Pid) → pid_eq p q ≡ false → placed.notes q ≡ l.notes q
   pub records : (n : ℕ) (q : Pid) → pid_eq p q ≡ false → after n q ≡ before n q
   pub known : (n : ℕ) (q : Pid) → pid_eq p q ≡ false → w.known n q ≡ v.known n q
@@ -304,7 +299,7 @@ tokens_one v w l placed before after p c h q i t z told between about st =
           subst (λ (r : Pid). OneStands w placed after r i t) is (λ due. absurd (false≢true (sym x.0 ∙ due)), λ off. x.1)
       | inr apart ↦
           let g = c.came i t z was between st in
-          let cargo = cargo_same l placed q (c.processes q apart) (c.notes q apart) in
+          let cargo = cargo_same l placed q (c.residents q apart) (c.notes q apart) in
           one_keeps v w l placed before after q i t (known_due v w q i t (λ n. c.known n q apart)) (λ due x. token_same v w l placed before after q i t cargo (c.asked q apart) (λ n. c.records n q apart) x (g.1 ∙ x.is))
           (λ off x. left_keeps l placed q i x (λ asks. cargo) (g.1 ∙ x.is)) (h q i t g.0.0 was between about g.0.1)
     ]

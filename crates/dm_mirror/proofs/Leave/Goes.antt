@@ -11,7 +11,7 @@ use Rattle.dm_mirror.proofs.Rooms.{taken_changed}
 use Rattle.dm_mirror.proofs.Leave.Fronts.{FrontGone, Hearing, leaving, leaving_left, outcome_hears, stood, turn_hears, absent_next, may_between, own_is, records_as, to_kernel_hears, untold_next, tokens_one}
 use Rattle.dm_mirror.proofs.Leave.Stays.{messages_append, in_one}
 use Rattle.dm_mirror.proofs.Turning.{NoneEnds, own_first, own_behind, Leaves, On, TurnsAt, begun, is_elsewhere, part_of, rule_part_of, AllMayPut, MayPut, owns}
-use Rattle.dm_mirror.proofs.Leave.Asks.{carried, departing, kernel_number, leaves_alive, leaves_no_server}
+use Rattle.dm_mirror.proofs.Leave.Asks.{carried, departing, kernel_number, leaves_alive}
 use Rattle.dm_mirror.proofs.Handle.Taking.{eq_self, machine_self, machine_off, map_same, pid_apart, record_self, record_off, record_others, times_more, times_self, some_same, stands_set}
 use Rattle.dm_onekernel.specs.Step as kernel
 use Rattle.dm_kernel.specs.State as machine
@@ -20,6 +20,13 @@ use Rattle.dm_rule.specs.Parts as rule
 use Rattle.dm_mirror.proofs.Leave.Fronts as owns
 use Rattle.dm_mirror.proofs.Turning as turning
 use Rattle.dm_mirror.proofs.LeftOver.{record_apart, record_kept}
+use Rattle.dm_migrate.specs.Rooms.{room_without}
+use Rattle.dm_resident.specs.Lawful.{IsLawfulResident}
+use Rattle.dm_resident.specs.Residents as residents
+use Rattle.dm_mirror.proofs.Residents.{OfBoard, OfManager, OfProcess, board_here, here_is, lawful_blocks, manager_here, process_here, same_system, server_apart, who}
+use Rattle.dm_mirror.proofs.Sized.{here_sized, size_at}
+use Rattle.dm_mirror.proofs.Rooms.{taken_but_servers}
+use Rattle.dm_mirror.proofs.Names.{Resident, Addresses, MirrorsKernel, HereStands, is_server}
 use Rattle.dm_mirror.proofs.Turning.{IsCarried, IsLeftOver}
 
 pub times_among : (i : MsgId) (ids : List MsgId) → is_among i ids ≡ true → 1 ≤ times i ids
@@ -126,7 +133,7 @@ on_may b pt end m p l records at moves i x run mirrors own e least there =
           (put, (t.told, ap (λ (f : MsgId → Option Told). f x.id) e ∙ ap v.told name ∙ t.is, t.kind, t.receiver), ap is_between (sym t.kind) ∙ queued_plain v m p i t.told phases t.is waits)
     ]
 
--- A process has gone: the messages for it go on, and the other machine may restart it.
+-- A process or a server has gone: the messages for it go on, and the other machine may restart it.
 
 pub room_released : (t given : Taken) (o n : Room) (blocks : ℕ) → RoomStands t given o → n.slots + 1 ≡ o.slots + 0 → n.blocks + blocks ≡ o.blocks + 0 → RoomStands (with_released t blocks) given n
 room_released t given o n blocks h slots pieces =
@@ -140,6 +147,39 @@ pid_in (Queue m p) q = p
 pid_in (Held m p) q = p
 pid_in _ q = q
 
+-- the room that it leaves: a process's slot and its blocks; a server has taken none
+pub room_left : (pt : Point) (w : View) (a : Addresses) (m : ℕ) (p : Pid) (l : Placed) (queue : List MsgId) (r : Resident) (t given : Taken) → HereStands l p queue r → IsLawfulResident r → MadeStands pt.kernel → MirrorsKernel pt.kernel l
+    → takes_room (pt.view.known m p) ≡ 1 → takes_room (w.known m p) ≡ 0 → ((q : Pid) → pid_eq p q ≡ false → w.known m q ≡ pt.view.known m q)
+    → RoomStands t given (taken_at pt m pt.kernel.machines) → RoomStands (room_without t (residents.blocks_of r)) given (taken_at (record { kernel = pt.kernel; view = w; addresses = a }) m pt.kernel.machines)
+room_left pt w a m p l queue r t given here lawful made h one none others room =
+    let end : Point = record { kernel = pt.kernel; view = w; addresses = a } in
+    let same : (q : Pid) → pid_eq p q ≡ false → taken_by end m q ≡ taken_by pt m q =
+    λ q off. (let e = others q off in (λ i. record { slots = takes_room (e i); blocks = if takes_room (e i) == 0 then 0 else blocks_of (kernel.alive (pt.kernel.processes q)) })) in
+    let server : (x : Resident) → is_server p ≡ true → residents.blocks_of x ≡ 0 → r ≡ x → RoomStands (room_without t (residents.blocks_of r)) given (taken_at end m pt.kernel.machines) =
+    λ x on zero_ is. subst (λ (n : ℕ). RoomStands (room_without t n) given (taken_at end m pt.kernel.machines)) (sym (ap residents.blocks_of is ∙ zero_))
+    (subst (RoomStands t given) (sym (taken_but_servers pt end m refl (λ n. refl) (λ q off. same q (server_apart p q on off)))) room) in
+    elim (who p) [
+      | OfProcess off ↦
+          let c = process_here l p queue r off here in
+          let x = c.process in
+          let n : ℕ = length x.memory / 256 in
+          let alive : kernel.alive (pt.kernel.processes p) ≡ Some (plain_process x) = h.processes p ∙ ap (option_map plain_process) c.there in
+          let some = life_some (pt.kernel.processes p) (plain_process x) alive in
+          let taken = taken_changed pt end m p refl (λ r. refl) (made.home p some) (made.first p some) (made.below p some) (λ q apart. same q (pid_apart p q apart)) in
+          let was : taken_by pt m p ≡ record { slots = 1; blocks = n } =
+          (λ i. record { slots = one i; blocks = if one i == 0 then 0 else blocks_of (alive i) }) in
+          let is : taken_by end m p ≡ record { slots = 0; blocks = 0 } = (λ i. record { slots = none i; blocks = if none i == 0 then 0 else blocks_of (kernel.alive (pt.kernel.processes p)) }) in
+          let now : Room = taken_at end m pt.kernel.machines in
+          let before : Room = taken_at pt m pt.kernel.machines in
+          let slots : now.slots + 1 ≡ before.slots + 0 = ap (λ (r : Room). now.slots + r.slots) (sym was) ∙ taken.0 ∙ ap (λ (r : Room). before.slots + r.slots) is in
+          let blocks : now.blocks + n ≡ before.blocks + 0 = ap (λ (r : Room). now.blocks + r.blocks) (sym was) ∙ taken.1 ∙ ap (λ (r : Room). before.blocks + r.blocks) is in
+          let released : room_without t (residents.blocks_of r) ≡ with_released t n =
+          ap (λ (z : Resident). room_without t (residents.blocks_of z)) c.is ∙ ap (λ (d : Bool). if d then t else with_released t n) (lawful_blocks x (subst IsLawfulResident c.is lawful)) in
+          subst (λ (z : Taken). RoomStands z given now) (sym released) (room_released t given before now n room slots blocks)
+      | OfBoard at_board ↦ server (Resident.Board l.board) (ap is_server at_board) refl (board_here l queue r (subst (λ (q : Pid). HereStands l q queue r) at_board here))
+      | OfManager at_manager ↦ server (Resident.Manager l.manager) (ap is_server at_manager) refl (manager_here l queue r (subst (λ (q : Pid). HereStands l q queue r) at_manager here))
+    ]
+
 pub goes : (b : Boot) (m : ℕ) (pt : Point) (l : Placed) (records : AllRecords) (k : KernelState) (y : Message) (p : Pid) → Hearing b m pt l records k (record y { what = What.AllTaken p }) → MadeStands pt.kernel → TurnsAt b m pt l records k
 goes b m pt l records k y p h made =
     let bag_absent : (l : Placed) (at moves : ℕ) (ids : List MsgId) (i : MsgId) → l.bag i ≡ None → (sent_all l at moves ids).bag i ≡ None = λ l at moves ids i none. grind (arith, nat_tests, option_map) in
@@ -150,18 +190,16 @@ goes b m pt l records k y p h made =
     let (departure, record_is, stands) = departing b m pt l records k z p h g in
     let c = carried b m pt l records k z p h refl refl refl in
     let num = kernel_number m y.to.pid g.receiver in
-    let server = leaves_no_server b pt m g.to p h.run g.known in
-    let x : Process = departure.process in
+    let x : Resident = departure.resident in
     let to : ℕ = departure.to in
-    let moves : ℕ = x.moves + 1 in
-    let there = stands.here.0.1 in
+    let moves : ℕ = residents.moves_of x + 1 in
     let known_is : v.known m p ≡ Frozen to = g.known ∙ ap Frozen (sym stands.to) in
     let from_is : y.id.from.home ≡ to = ap (λ (q : Pid). q.home) g.from ∙ sym stands.to in
     let apart : to ≢ m = λ (e : to ≡ m). g.apart (sym stands.to ∙ e) in
-    let moves_is : x.moves ≡ v.moves p = (h.mirrors.places.process p (record x { queue = stands.here.0.0 }) there).moves in
+    let moves_is : residents.moves_of x ≡ v.moves p = (here_is pt.kernel v pt.addresses l p (v.queue m p) x h.mirrors stands.here).moves in
     let ids : List MsgId = v.queue m p ++ v.held m p in
-    let ms : List Message = x.queue ++ departure.held in
-    let lists : AreMessages l.bag ids ms = messages_append l.bag (v.queue m p) (v.held m p) x.queue departure.held stands.here.1 stands.held in
+    let ms : List Message = residents.queue_of x ++ departure.held in
+    let lists : AreMessages l.bag ids ms = messages_append l.bag (v.queue m p) (v.held m p) (residents.queue_of x) departure.held stands.here.1 stands.held in
     let on : List Message = all_sent_on departure in
     let n : ℕ = length on in
     let state : KernelState = with_sent (without_leaving s p departure) in
@@ -188,16 +226,7 @@ goes b m pt l records k y p h made =
     let stays : (q : Spot) (j : MsgId) → q ≢ Queue m p → q ≢ Held m p → 1 ≤ standing v j q → placed.bag j ≡ l.bag j = λ q j queue held least. bag_off b pt m p l to moves q j h.run queue held least in
     let behind : (j : MsgId) → 1 ≤ times j h.ids → placed.bag j ≡ l.bag j =
     λ j least. (let more = times_more j y.id h.ids in stays (Inbox m) j (λ e. cc) (λ e. cc) (subst (λ (is : List MsgId). 1 ≤ times j is) (sym h.box) (omega (arith, least, more)))) in
-    let some = life_some (pt.kernel.processes p) (plain_process x) (h.mirrors.plain.processes p ∙ ap (option_map plain_process) there) in
     let others_known : (q : Pid) → pid_eq p q ≡ false → end.view.known m q ≡ v.known m q = λ q off. record_others v.known m p q forward off in
-    let taken = taken_changed pt end m p refl (λ r. refl) (made.home p some) (made.first p some) (made.below p some)
-    (λ q off. (let e = others_known q (pid_apart p q off) in (λ i. record { slots = takes_room (e i); blocks = if takes_room (e i) == 0 then 0 else blocks_of (kernel.alive (pt.kernel.processes q)) }))) in
-    let was : taken_by pt m p ≡ record { slots = 1; blocks = length (plain_process x).memory / 256 } = grind (arith, nat_tests) in
-    let is : taken_by end m p ≡ record { slots = 0; blocks = 0 } = ap (λ (n : Known). record { slots = takes_room n; blocks = if takes_room n == 0 then 0 else blocks_of (kernel.alive (end.kernel.processes p)) }) forward_known in
-    let now : Room = taken_at end m end.kernel.machines in
-    let before : Room = taken_at pt m pt.kernel.machines in
-    let slots : now.slots + 1 ≡ before.slots + 0 = ap (λ (r : Room). now.slots + r.slots) (sym was) ∙ taken.0 ∙ ap (λ (r : Room). before.slots + r.slots) is in
-    let blocks : now.blocks + length x.memory / 256 ≡ before.blocks + 0 = ap (λ (r : Room). now.blocks + r.blocks) (sym was) ∙ taken.1 ∙ ap (λ (r : Room). before.blocks + r.blocks) is in
     let start_mirrors : MirrorsPoint (begun pt m) l = mirrors_view pt.kernel v (begun pt m).view pt.addresses l refl h.mirrors in
     let next_mirrors : MirrorsPoint next placed = subst (λ (r : ℕ). MirrorsPoint next (sent_all l to (r + 1) ids)) (sym moves_is) (sent_on_mirrors (begun pt m) l p n to start_mirrors known_is) in
     let restarts : IsCarried placed (end.view.asked p) after_records p restart = record {
@@ -229,7 +258,6 @@ goes b m pt l records k y p h made =
     let waits : (q : Pid) (j : MsgId) → pid_eq p q ≡ false → 1 ≤ times j (v.queue m q) → placed.bag j ≡ l.bag j = λ q j off least. stays (Queue m q) j (other_queue m p q off) (λ e. cc) least in
     let holds : (q : Pid) (j : MsgId) → pid_eq p q ≡ false → 1 ≤ times j (v.held m q) → placed.bag j ≡ l.bag j =
     λ q j off least. stays (Held m q) j (λ e. cc) (λ e. false≢true (sym off ∙ ap (pid_eq p) (ap (λ (z : Spot). pid_in z p) e) ∙ pid_eq-same p)) least in
-    let keeps : is_server p ≡ true → state.records p ≡ k.records p = λ is. absurd (false≢true (sym server ∙ is)) in
     -- spots of other machines and of other processes
     let elsewhere_queue : (m : ℕ) (p : Pid) (z : Spot) → is_elsewhere m z ≡ true → z ≢ Queue m p = λ m p z is e. false≢true (sym (ap not (eq_self m)) ∙ ap (is_elsewhere m) (sym e) ∙ is) in
     record {
@@ -241,7 +269,7 @@ goes b m pt l records k y p h made =
           (owns.to_kernel b s z num ∙ ap (λ (r : Option machine.KernelKnown). bind (frozen_of r) (leaves s p)) record_is ∙ ap (λ (ps : List Part). turned state (Part.Says (Line.SentOn p n) ∷ ps ++ sends)) (sym (on_parts on)));
       outcome = outcome_hears b m pt l records k z h (Some (rule.Says (Line.SentOn p n) ∷ map rule_part_of (map On on) ++ last))
           (to_kernel_hears b pt m y.id (told_of z) num
-          ∙ leaves_alive b m pt l p (record x { queue = stands.here.0.0 }) y.id MessageKind.AllTaken (Some (rule.Says (Line.SentOn p n) ∷ map rule_part_of (map On on) ++ last)) there (h.mirrors.plain.processes p) refl refl
+          ∙ leaves_alive b m pt p (size_at x) y.id MessageKind.AllTaken (Some (rule.Says (Line.SentOn p n) ∷ map rule_part_of (map On on) ++ last)) (here_sized pt.kernel l p (v.queue m p) x h.mirrors.plain stands.here) refl refl
           (ap (migrating.leaves y.id p ids) known_is
           ∙ ap (λ (r : ℕ). Some (rule.Says (Line.SentOn p (length ids)) ∷ sends_on to ids ++ rule.Says (Line.Migration Stage.Left p) ∷ to_kernel MessageKind.Restart r ∷ [])) from_is
           ∙ ap (λ (r : ℕ). Some (rule.Says (Line.SentOn p r) ∷ sends_on to ids ++ last)) (sym (on_length l.bag to moves ids ms lists))
@@ -250,13 +278,14 @@ goes b m pt l records k y p h made =
       after = refl;
       placed = placed;
       mirrors = next_mirrors;
-      kernel = stands_set b pt end l placed m k state p (search (sets, record_others, others_known, waits, holds, mine, keeps)) h.stands
+      kernel = stands_set b pt end l placed m k state p (search (sets, record_others, others_known, same_system l, waits, holds, mine)) h.stands
           h.stands.ring (ap (map placed.bag) box ∙ map_same l.bag placed.bag h.ids behind ∙ h.others)
-          h.stands.made (room_released k.room _ before now (length x.memory / 256) h.stands.room slots blocks)
-          h.stands.servers h.stands.preds;
+          h.stands.made (room_left pt end.view end.addresses m p l (v.queue m p) x k.room _ stands.here stands.whole.lawful made h.mirrors.plain (ap takes_room known_is) (ap takes_room forward_known) others_known h.stands.room)
+          h.stands.preds;
       sent = λ e. omega (arith, e, owned);
       elsewhere = search (
         record_off,
+        same_system l,
         λ (i : MsgId) (spot : Spot) (away : is_elsewhere m spot ≡ true) (least : 1 ≤ standing (begun pt m).view i spot).
             stays spot i (elsewhere_queue m p spot away) (λ e. false≢true (sym (ap not (eq_self m)) ∙ ap (is_elsewhere m) (sym e) ∙ away)) (subst (λ (r : ℕ). 1 ≤ r) (standing_begun pt m i spot) least),
       );
@@ -275,7 +304,7 @@ goes b m pt l records k y p h made =
             stays = record {
               told = refl;
               asked = λ q off. refl;
-              processes = λ q off. refl;
+              residents = λ q off. refl;
               notes = λ q off. refl;
               records = λ r q off. records_as records m r k.records state.records q h.records_here (sets q off);
               known = λ r q off. record_apart v.known m r p q forward off;

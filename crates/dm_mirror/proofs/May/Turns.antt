@@ -1,59 +1,41 @@
 -- A machine's kernel that stands for a point may take a turn.
 use Rattle.dm_mirror.proofs.Names.{◌≡◌, ℕ, ◌<◌, ◌==◌, true, false, List, [], ◌∷◌, map, refl, ap, ◌∙◌, sym, subst, arith, All, Option, None, Some, nat_tests, All-head, Pid, pid_eq, Message, MsgId, IsLawfulMessage, PlainMessage}
-use Rattle.dm_mirror.proofs.Names.{plain_message, Boot, manager, switchboard, pid_eq-is, Point, is_server, OwnTold, Run, for_whom, Placed, Mirrors, IsLawfulState, FitsKnown, FrontMay, MayHandle, MayTurn, KernelState, MadeStands}
-use Rattle.dm_mirror.proofs.Names.{KernelStands, AllOwnStand, TokensStand, cases_Bool, inl, inr, or-right, IsServer, ◌+◌, ◌≤◌, false≢true}
-use Rattle.dm_mirror.proofs.May.Own.{own_board, own_front, own_manager, own_row, process_row, may_act, FrontSo, for_board, for_manager, front_so, kernel_create, kernel_row}
+use Rattle.dm_mirror.proofs.Names.{plain_message, Boot, IsValid, Point, OwnTold, Run, for_whom, Placed, Mirrors, IsLawfulState, FitsKnown, FrontMay, MayHandle, MayTurn, KernelState, MadeStands}
+use Rattle.dm_mirror.proofs.Names.{KernelStands, AllOwnStand, TokensStand, ◌+◌, ◌≤◌}
+use Rattle.dm_mirror.proofs.May.Own.{own_front, own_row, front_row, may_act, FrontSo, front_so, kernel_create, kernel_row}
 use Rattle.dm_mirror.proofs.May.OwnKernel.{Around, own_kernel}
 use Rattle.dm_mirror.proofs.Counts.Pairs.{CountsFew}
 
-named_server : (p : Pid) → IsServer p → is_server p ≡ true
-named_server p server = grind (arith, nat_tests)
-
 -- the message at the front, one of the bag
-handles : (b : Boot) (pt : Point) (l : Placed) (m : ℕ) (k : KernelState) (i : MsgId) (x : Message) (p : PlainMessage) → Run b pt → MadeStands pt.kernel → CountsFew pt → Mirrors pt.kernel pt.view pt.addresses l → KernelStands b pt l m k → k.sent + 16 ≤ 4294967295 → IsLawfulMessage x → FrontSo pt m i x p → MayHandle b k x
-handles b pt l m k i x p run made counts mirrors h all lawful f = record {
+handles : (b : Boot) (pt : Point) (l : Placed) (m : ℕ) (k : KernelState) (i : MsgId) (is : List MsgId) (x : Message) (p : PlainMessage) → Run b pt → MadeStands pt.kernel → CountsFew pt → Mirrors pt.kernel pt.view pt.addresses l → KernelStands b pt l m k → k.sent + 16 ≤ 4294967295 → IsLawfulMessage x
+    → pt.view.inbox m ≡ i ∷ is → FrontSo pt m i x p → MayHandle b k x
+handles b pt l m k i is x p run made counts mirrors h all lawful box f = record {
   lawful = lawful;
   for_kernel = λ num.
       let zero_ : p.to.num ≡ 0 = (let e : (p.to.num == 0) ≡ true = ap (λ (q : Pid). q.num == 0) (sym f.to) ∙ num in grind (arith, nat_tests)) in
       let few = counts.made m in
       let count = h.made in
       kernel_row b pt k i x p p.what f.what_is (kernel_create pt.kernel p p.what (for_whom pt.kernel i p p.what f.fits) made zero_) f.fits run.based.images (omega (arith, few, count));
-  for_process = λ num. elim (cases_Bool (is_server p.to)) [
-    | inl server ↦ subst (λ (q : Pid). FitsKnown k x (k.records q)) (sym f.to) (subst (FitsKnown k x) (sym (h.no_server p.to server)) (record {
-      ended = λ off. absurd (false≢true (sym off ∙ ap is_server f.to ∙ server));
-      board = λ is. for_board pt l m k x i p made counts mirrors h.servers f (sym f.to ∙ pid_eq-is x.to.pid switchboard is);
-      manager = λ is. for_manager pt l m k x i p made counts mirrors h.servers f (sym f.to ∙ pid_eq-is x.to.pid manager is);
-    }))
-    | inr off ↦ (
-        let sent : k.sent < 4294967295 = omega (arith, all) in
-        let num_ : (p.to.num == 0) ≡ false = ap (λ (q : Pid). q.num == 0) (sym f.to) ∙ num in
-        subst (λ (q : Pid). FitsKnown k x (k.records q)) (sym f.to) (process_row b pt l m k i x p (k.records p.to) mirrors h counts sent all f num_ (or-right (pid_eq p.to switchboard) (pid_eq p.to manager) off) off refl)
-        )
-  ];
-  for_server = λ server. h.no_server x.to.pid (named_server x.to.pid server);
+  for_process = λ num.
+      let sent : k.sent < 4294967295 = omega (arith, all) in
+      let num_ : (p.to.num == 0) ≡ false = ap (λ (q : Pid). q.num == 0) (sym f.to) ∙ num in
+      subst (λ (q : Pid). FitsKnown k x (k.records q)) (sym f.to) (front_row b pt l m k i is x p run made mirrors h counts sent all box f num_);
 }
 
 -- or a kernel's own
-pub own_handles : (b : Boot) (pt : Point) (l : Placed) (ks : ℕ → KernelState) (m : ℕ) (i : MsgId) (x : Message) → Around b pt l ks m i x → (ks m).sent + 16 ≤ 4294967295 → IsLawfulMessage x → MayHandle b (ks m) x
-own_handles b pt l ks m i x h all lawful =
+pub own_handles : (b : Boot) (pt : Point) (l : Placed) (ks : ℕ → KernelState) (m : ℕ) (i : MsgId) (x : Message) → Around b pt l ks m i x → IsLawfulState (ks m) → (ks m).sent + 16 ≤ 4294967295 → IsLawfulMessage x → MayHandle b (ks m) x
+own_handles b pt l ks m i x h whole all lawful =
     let stands = h.nodes m h.within in
     let sent : (ks m).sent < 4294967295 = omega (arith, all) in
     record {
       lawful = lawful;
       for_kernel = λ num. own_kernel b pt l ks m i x h num sent all;
-      for_process = λ num. elim (cases_Bool (is_server x.to.pid)) [
-        | inl server ↦ subst (FitsKnown (ks m) x) (sym (stands.no_server x.to.pid server)) (record {
-          ended = λ off. absurd (false≢true (sym off ∙ server));
-          board = λ is. own_board pt l m (ks m) i x h.counts h.mirrors stands.servers h.front (pid_eq-is x.to.pid switchboard is);
-          manager = λ is. own_manager pt l m (ks m) i x h.counts h.mirrors stands.servers h.front (pid_eq-is x.to.pid manager is);
-        })
-        | inr off ↦ own_row b pt l m (ks m) i x ((ks m).records x.to.pid) h.mirrors stands h.counts sent h.front num off refl
-      ];
-      for_server = λ server. stands.no_server x.to.pid (named_server x.to.pid server);
+      for_process = λ num. own_row b pt l m (ks m) i x h.run h.mirrors stands whole h.counts sent h.front num;
     }
 
 -- all that stands where machine m takes a turn
 pub record Stand (b : Boot) (pt : Point) (l : Placed) (ks : ℕ → KernelState) (m : ℕ) : Type 0 where
+  pub valid : IsValid b
   pub run : Run b pt
   pub told : OwnTold pt
   pub made : MadeStands pt.kernel
@@ -66,19 +48,19 @@ pub record Stand (b : Boot) (pt : Point) (l : Placed) (ks : ℕ → KernelState)
   -- it has counted its kernel's own messages as the lines have
   pub sent : (ks m).sent ≡ pt.view.count m
 
-pub any_handles : (b : Boot) (pt : Point) (l : Placed) (ks : ℕ → KernelState) (m : ℕ) (i : MsgId) (is : List MsgId) (x : Message) (o : Option PlainMessage) → plain_message x ≡ o → Stand b pt l ks m → pt.view.inbox m ≡ i ∷ is → l.bag i ≡ Some x → IsLawfulMessage x → MayHandle b (ks m) x
-any_handles b pt l ks m i is x None plain h box there lawful =
+pub any_handles : (b : Boot) (pt : Point) (l : Placed) (ks : ℕ → KernelState) (m : ℕ) (i : MsgId) (is : List MsgId) (x : Message) (o : Option PlainMessage) → plain_message x ≡ o → Stand b pt l ks m → IsLawfulState (ks m) → pt.view.inbox m ≡ i ∷ is → l.bag i ≡ Some x → IsLawfulMessage x → MayHandle b (ks m) x
+any_handles b pt l ks m i is x None plain h whole box there lawful =
     own_handles b pt l ks m i x
-    (record { run = h.run; made = h.made; counts = h.counts; mirrors = h.mirrors; nodes = h.nodes; tokens = h.tokens; within = h.within; front = own_front b pt l m i is x h.run h.told h.own box there plain })
+    (record { valid = h.valid; run = h.run; made = h.made; counts = h.counts; mirrors = h.mirrors; nodes = h.nodes; tokens = h.tokens; within = h.within; front = own_front b pt l m i is x h.run h.told h.own box there plain }) whole
     (let sent = h.sent in let few = h.counts.own m in omega (arith, sent, few)) lawful
-any_handles b pt l ks m i is x (Some p) plain h box there lawful =
-    handles b pt l m (ks m) i x p h.run h.made h.counts h.mirrors (h.nodes m h.within)
-    (let sent = h.sent in let few = h.counts.own m in omega (arith, sent, few)) lawful (front_so b pt l m i is x p h.run h.mirrors box there plain)
+any_handles b pt l ks m i is x (Some p) plain h whole box there lawful =
+    handles b pt l m (ks m) i is x p h.run h.made h.counts h.mirrors (h.nodes m h.within)
+    (let sent = h.sent in let few = h.counts.own m in omega (arith, sent, few)) lawful box (front_so b pt l m i is x p h.run h.mirrors box there plain)
 
-front_may : (b : Boot) (pt : Point) (l : Placed) (ks : ℕ → KernelState) (m : ℕ) (ids : List MsgId) (xs : List Message) → Stand b pt l ks m → pt.view.inbox m ≡ ids → map l.bag ids ≡ map Some xs → All IsLawfulMessage xs → FrontMay b (ks m) xs
-front_may b pt l ks m ids [] h box are lawful = tt
-front_may b pt l ks m [] (x ∷ xs) h box are lawful = cc
-front_may b pt l ks m (i ∷ is) (x ∷ xs) h box are lawful = any_handles b pt l ks m i is x (plain_message x) refl h box (cc) (All-head IsLawfulMessage x xs lawful)
+front_may : (b : Boot) (pt : Point) (l : Placed) (ks : ℕ → KernelState) (m : ℕ) (ids : List MsgId) (xs : List Message) → Stand b pt l ks m → IsLawfulState (ks m) → pt.view.inbox m ≡ ids → map l.bag ids ≡ map Some xs → All IsLawfulMessage xs → FrontMay b (ks m) xs
+front_may b pt l ks m ids [] h whole box are lawful = tt
+front_may b pt l ks m [] (x ∷ xs) h whole box are lawful = cc
+front_may b pt l ks m (i ∷ is) (x ∷ xs) h whole box are lawful = any_handles b pt l ks m i is x (plain_message x) refl h whole box (cc) (All-head IsLawfulMessage x xs lawful)
 
 pub may_turn : (b : Boot) (pt : Point) (l : Placed) (ks : ℕ → KernelState) (m : ℕ) → m < 16 → Stand b pt l ks m → IsLawfulState (ks m) → MayTurn b (ks m)
 may_turn b pt l ks m small h lawful =
@@ -89,5 +71,5 @@ may_turn b pt l ks m small h lawful =
       (let sent = h.sent in let few = h.counts.own m in let all : (ks m).sent + 16 ≤ 4294967295 = omega (arith, sent, few) in all),
       small,
       may_act b pt l m (ks m) h.made h.counts h.mirrors stands lawful,
-      front_may b pt l ks m (pt.view.inbox m) (ks m).inbox h refl stands.inbox lawful.inbox,
+      front_may b pt l ks m (pt.view.inbox m) (ks m).inbox h lawful refl stands.inbox lawful.inbox,
     )

@@ -3,8 +3,11 @@ use Rattle.dm_mirror.proofs.Names.{◌≡◌, ℕ, ◌+◌, ◌≤◌, ◌==◌,
 use Rattle.dm_mirror.proofs.Names.{nat_tests, bind, bind-is, Line, Load, Stage, Receiver, Spelled, goes_out, puts, spelled, Point, after, moved, at_machine, Spot, standing, Told, View, is_own, own_id, fits_packet, fits_put, PairsFit, Sane}
 use Rattle.dm_mirror.proofs.Names.{Placed, Mirrors, AllRecords, pid_of, Message, id_eq, id_of, id_eq-is, Gets, Sender, first_gives, given, own_given, not_kernels, put_told_off, not_first, zero, suc, drop, eqb-true, drop-append-le, Inbox}
 use Rattle.dm_mirror.proofs.Names.{Untaken, times, untaken, Pair, after_packet, after_put, routed_on, two_of, put_spot, put_there, times-append, home_full, behind, sort_of, Known, inl, inr, told_of, Sort, Holder, holder_eq, Addresses}
-use Rattle.dm_mirror.proofs.Names.{OneKernel, Place, Child, unmoved, gets, child_number, option_map_or, incoming_of, Carries, cargo_at, destination_of, eq-eqb, cases_Bool, Cargo, LeftCarries}
+use Rattle.dm_mirror.proofs.Names.{OneKernel, Place, Child, acting_place, manager, unmoved, gets, child_number, option_map, pid_eq, switchboard, incoming_of, Carries, cargo_at, destination_of, eq-eqb, cases_Bool, Cargo, LeftCarries}
 use Rattle.dm_rule.specs.Parts as rule
+use Rattle.std.specs.Option.{unwrap_or}
+use Rattle.dm_rule.specs.Addresses.{known_place}
+use Rattle.dm_rule.specs.Holders.{ToBoard}
 use Rattle.dm_mirror.proofs.Turning.{own_behind, Route, First, On, Own, Late, Nothing, Leaves, MayPut, late_rule_parts, message_of, rule_part_of, MayOwn, AllMayPut, LateMay, late_owns, owns}
 use Rattle.dm_mirror.proofs.Puts.{put_standing}
 use Rattle.dm_mirror.proofs.Route.Puts.{after_route, route_keeps, route_more, told_stays, own_gives_same}
@@ -54,6 +57,7 @@ pub record SameEnd (put end : Point) : Type 0 where
   pub topic : end.view.topic ≡ put.view.topic
   pub asked : end.view.asked ≡ put.view.asked
   pub known : end.view.known ≡ put.view.known
+  pub moves : end.view.moves ≡ put.view.moves
   pub groups : end.view.groups ≡ put.view.groups
 
 pub same_end : (q : Point) (m c : ℕ) (x : Message) (home out : Bool) → SameEnd (put_point q m c x) (put_end q m c x home out)
@@ -102,27 +106,31 @@ record Keeps (pt end : Point) (y : Message) (i j : ℕ) : Type 0 where
   topic : end.view.topic ≡ pt.view.topic
   asked : end.view.asked ≡ pt.view.asked
   known : end.view.known ≡ pt.view.known
-  -- its own addresses, and those of the manager's children
+  moves : end.view.moves ≡ pt.view.moves
+  -- its own addresses, and those of the manager's children and of the switchboard
   receiver : end.addresses (Receiver y.id) ≡ pt.addresses (Receiver y.id)
   sender : end.addresses (Sender y.id) ≡ pt.addresses (Sender y.id)
   child : (n : ℕ) → end.addresses (Child n) ≡ pt.addresses (Child n)
+  board : end.addresses ToBoard ≡ pt.addresses ToBoard
 
 -- what its put gives it goes by these alone
 given_as : (a c : Addresses) (gs : List Gets) (h : Holder) → c h ≡ a h → given c gs h ≡ given a gs h
 given_as a c [] h e = e
 given_as a c (g ∷ gs) h e = λ i. if holder_eq g.holder h then g.place else given_as a c gs h e i
 
-own_given_as : (s : OneKernel) (v : View) (a c : Addresses) (id : MsgId) (q : Pid) (k : Sort) → ((n : ℕ) → c (Child n) ≡ a (Child n)) → own_given s v c id q k ≡ own_given s v a id q k
-own_given_as s v a c id q Sort.Request e = λ i. gets (Receiver id) (option_map_or (λ n. e n i) (child_number s q) (unmoved 0)) ∷ gets (Sender id) (unmoved v.acting) ∷ []
-own_given_as s v a c id q k e = refl
+own_given_as : (s : OneKernel) (v : View) (a c : Addresses) (id : MsgId) (q : Pid) (k : Sort) → ((n : ℕ) → c (Child n) ≡ a (Child n)) → c ToBoard ≡ a ToBoard → own_given s v c id q k ≡ own_given s v a id q k
+own_given_as s v a c id q Sort.Request e f =
+    λ i. gets (Receiver id) (unwrap_or (if pid_eq q switchboard then Some (f i) else if pid_eq q manager then Some (record { at = v.acting; moves = v.moves q }) else option_map (λ (n : ℕ). e n i) (child_number s q)) (unmoved 0))
+    ∷ gets (Sender id) (acting_place v manager) ∷ []
+own_given_as s v a c id q k e f = refl
 
 own_stays : (pt end : Point) (l u : Placed) (records : AllRecords) (y : Message) (i j : ℕ) → Keeps pt end y i j → ((p : Pid) → cargo_at u p ≡ cargo_at l p) → u.bag y.id ≡ None → MayOwn pt l records i y → MayOwn end u records j y
 own_stays pt end l u records y i j k cargo none may =
     let sort = sort_of (kind_of y.what) in
     let gives : own_given end.kernel end.view end.addresses y.id y.to.pid sort ≡ own_given pt.kernel pt.view pt.addresses y.id y.to.pid sort =
     (λ i. own_given (k.kernel i) end.view end.addresses y.id y.to.pid sort)
-    ∙ own_gives_same pt.kernel pt.view end.view end.addresses y.id y.to.pid (kind_of y.what) k.acting
-    ∙ own_given_as pt.kernel pt.view pt.addresses end.addresses y.id y.to.pid sort k.child in
+    ∙ own_gives_same pt.kernel pt.view end.view end.addresses y.id y.to.pid (kind_of y.what) k.acting k.moves
+    ∙ own_given_as pt.kernel pt.view pt.addresses end.addresses y.id y.to.pid sort k.child k.board in
     let place : (h : Holder) → end.addresses h ≡ pt.addresses h → given end.addresses (own_given end.kernel end.view end.addresses y.id y.to.pid sort) h ≡ given pt.addresses (own_given pt.kernel pt.view pt.addresses y.id y.to.pid sort) h =
     λ h e. ap (λ (g : List Gets). given end.addresses g h) gives ∙ given_as pt.addresses end.addresses (own_given pt.kernel pt.view pt.addresses y.id y.to.pid sort) h e in
     record {
@@ -163,9 +171,11 @@ keeps_own pt l m c x y j home out other gives apart =
       topic = s.topic;
       asked = s.asked;
       known = s.known;
+      moves = s.moves;
       receiver = ap (λ (a : Addresses). a (Receiver y.id)) places;
       sender = ap (λ (a : Addresses). a (Sender y.id)) places;
       child = λ n. ap (λ (a : Addresses). a (Child n)) places;
+      board = ap (λ (a : Addresses). a ToBoard) places;
     }
 
 -- two of the kernel's own have different names
@@ -182,7 +192,7 @@ both_apart : (a : Addresses) (id : MsgId) (x y : Place) (h : Holder) → holder_
 both_apart a id x y h e f = ap (λ (t : Bool). if t then x else if holder_eq (Sender id) h then y else a h) e ∙ ap (λ (t : Bool). if t then y else a h) f
 
 gives_apart : (a : Addresses) (s : OneKernel) (v : View) (c : Addresses) (id : MsgId) (q : Pid) (k : Sort) (h : Holder) → holder_eq (Receiver id) h ≡ false → holder_eq (Sender id) h ≡ false → given a (own_given s v c id q k) h ≡ a h
-gives_apart a s v c id q Sort.Request h e f = both_apart a id (option_map_or (λ n. c (Child n)) (child_number s q) (unmoved 0)) (unmoved v.acting) h e f
+gives_apart a s v c id q Sort.Request h e f = both_apart a id (unwrap_or (known_place s v v.acting c q) (unmoved 0)) (acting_place v manager) h e f
 gives_apart a s v c id q (Sort.Between passage) h e f = both_apart a id (unmoved q.home) (unmoved v.acting) h e f
 gives_apart a s v c id q Sort.Buries h e f = both_apart a id (unmoved q.home) (unmoved v.acting) h e f
 gives_apart a s v c id q k h e f = refl
@@ -212,9 +222,11 @@ keeps_next pt l records m x y j home out sane mirrors acting first more =
       topic = s.topic;
       asked = s.asked;
       known = s.known;
+      moves = s.moves;
       receiver = stay (Receiver y.id) apart refl;
       sender = stay (Sender y.id) refl apart;
       child = λ n. stay (Child n) refl refl;
+      board = stay ToBoard refl refl;
     }
 
 -- what holds of an own message behind another message that is put

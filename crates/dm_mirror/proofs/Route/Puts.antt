@@ -4,8 +4,8 @@ use Rattle.dm_mirror.proofs.Names.{◌≡◌, ℕ, ◌≤◌, Bool, true, false,
 use Rattle.dm_mirror.proofs.Names.{nat_tests, plain_message, incoming_of, Boot, bind, id_eq-is, id_eq-same, first_gives, own_given, is_between, Point, Spot, standing, Of, Told, View, after_put, first_told, is_kernels, put_at, put_spots}
 use Rattle.dm_mirror.proofs.Names.{PairsFit, put_told_off, Sane, plain_not, Placed, Mirrors, KeepsPlaces, lines_keep, routed_keeps, told_keeps, own_put_mirrors, WorldState, AllOwnStand, OwnStands, told_of, History, StandsWith, AllRecords}
 use Rattle.dm_mirror.proofs.Names.{Carries, TokensStand, destination_of, first_none, length, ◌⊎◌, at_machine, is_full, routes, Acted, Goes, Worn, spoken, Line, Load, Stage, OneKernel, Addresses, given, moved, at_id, About, sort_of, ◌≢◌}
-use Rattle.dm_mirror.proofs.Names.{◌<◌, ◌==◌, List, ◌∷◌, map, drop, slice_get, Record, Process, Departure, Arrival, KernelState, room_of, NodeState, Known, Unknown, Here, Frozen, Incoming, Forward, AreMessages, ComesStand, HereStands}
-use Rattle.dm_mirror.proofs.Names.{KernelStands, KnownStands, LeavesStand, NodeStands, PairStands, RoomStands, servers_at, CanBeCarried, IsSuch, cargo_at}
+use Rattle.dm_mirror.proofs.Names.{◌<◌, ◌==◌, List, ◌∷◌, map, drop, slice_get, Record, Departure, Arrival, KernelState, room_of, NodeState, Known, Unknown, Here, Frozen, Incoming, Forward, AreMessages, ComesStand, HereStands}
+use Rattle.dm_mirror.proofs.Names.{KernelStands, KnownStands, LeavesStand, NodeStands, PairStands, RoomStands, Resident, Managing, resident_at, CanBeCarried, IsSuch, cargo_at}
 use Rattle.dm_places.specs.PlacedStep.{with_message}
 pub use Rattle.dm_rulelaws.proofs.Based.Queues.{told_kept as told_stays}
 use Rattle.dm_mirror.proofs.Turning.{Route, First, On, Own, MayOwn, MayPut, IsCarried, message_of, rule_part_of, Late, Nothing, Leaves, LateTopic, late_point}
@@ -15,6 +15,8 @@ use Rattle.dm_onekernel.specs.Step as kernel
 use Rattle.dm_mirror.proofs.Rooms.{taken_same}
 use Rattle.dm_rule.specs.Parts as rule
 use Rattle.dm_mirror.proofs.Turning as turning
+use Rattle.dm_resident.specs.Residents as residents
+use Rattle.dm_mirror.proofs.Residents.{resident_same}
 use Rattle.dm_mirror.proofs.Cargoes.{cargo_same}
 use Rattle.dm_mirror.proofs.Turning.{IsLeftOver}
 use Rattle.dm_mirror.proofs.LeftOver.{OneStands, cargo_named, known_due, left_keeps, left_of, one_keeps, over_piece, token_same}
@@ -50,19 +52,23 @@ module _ (b : Boot) (pt : Point) (l u : Placed) (a : Addresses) (e : MoreBag l u
   abbrev next : Point
   next = record pt { addresses = a }
 
-  here_more : (p : Pid) (queue : List MsgId) (x : Process) → HereStands l p queue x → HereStands u p queue x
-  here_more p queue x h = ((h.0.0, e.processes p ∙ h.0.1), messages_more l.bag u.bag e.bag queue x.queue h.1)
+  same_resident : (p : Pid) → resident_at u p ≡ resident_at l p
+  same_resident p = resident_same l u p (e.processes p) e.board e.manager
+
+  here_more : (p : Pid) (queue : List MsgId) (x : Resident) → HereStands l p queue x → HereStands u p queue x
+  here_more p queue x h = ((h.0.0, same_resident p ∙ h.0.1), messages_more l.bag u.bag e.bag queue (residents.queue_of x) h.1)
 
   leaves_more : (p : Pid) (queue held : List MsgId) (to : ℕ) (d : Departure) → LeavesStand l p queue held to d → LeavesStand u p queue held to d
   leaves_more p queue held to d h =
-      record { to = h.to; cargo = cargo_same l u p (e.processes p) (e.notes p) ∙ h.cargo; here = here_more p queue d.process h.here; held = messages_more l.bag u.bag e.bag held d.held h.held; whole = h.whole }
+      record { to = h.to; cargo = cargo_same l u p (same_resident p) (e.notes p) ∙ h.cargo; here = here_more p queue d.resident h.here; held = messages_more l.bag u.bag e.bag held d.held h.held; whole = h.whole }
 
   comes_more : (p : Pid) (from : ℕ) (held : List MsgId) (x : Arrival) → ComesStand l p from held x → ComesStand u p from held x
   comes_more p from held x h = record {
     source = h.source;
     cargo = h.cargo;
-    there = cargo_same l u p (e.processes p) (e.notes p) ∙ h.there;
-    whole = subst (IsSuch (CanBeCarried x.cap)) (sym (e.processes p)) h.whole;
+    there = cargo_same l u p (same_resident p) (e.notes p) ∙ h.there;
+    whole = subst (λ (g : Managing). IsSuch (CanBeCarried x.cap g.machines g.images) (resident_at u p)) (sym e.manager)
+        (subst (IsSuch (CanBeCarried x.cap l.manager.machines l.manager.images)) (sym (same_resident p)) h.whole);
     pieces = h.pieces;
     held = messages_more l.bag u.bag e.bag held x.held h.held;
   }
@@ -75,16 +81,12 @@ module _ (b : Boot) (pt : Point) (l u : Placed) (a : Addresses) (e : MoreBag l u
   known_more p queue held (Forward to moves) (Some (Record.Forward at n)) h = h
   known_more p queue held k r h = h
 
-  servers_more : (m : ℕ) → servers_at u m ≡ servers_at l m
-  servers_more m = λ i. if m == 0 then Some (record { board = e.board i; manager = e.manager i }) else None
-
   kernel_more : (m : ℕ) (k : KernelState) → KernelStands b pt l m k → KernelStands b next u m k
   kernel_more m k h = search (
     known_more,
     h.known,
     messages_more l.bag u.bag e.bag (pt.view.inbox m) k.inbox h.inbox,
     subst (RoomStands k.room (room_of (slice_get b.machines m))) (sym (taken_same pt next m refl (λ n. refl) (λ p. refl))) h.room,
-    h.servers ∙ sym (servers_more m),
   )
 
   node_more : (m : ℕ) (n : NodeState) → NodeStands b pt l m n → NodeStands b next u m n
@@ -161,7 +163,7 @@ route_own pt l records m (Own x) may h i y there plain = elim (cases_Bool (id_eq
 -- what a message of a migration carries stays
 pub token_kept : (v u : View) (l k : Placed) (r s : AllRecords) (p : Pid) (i : MsgId) (t : Told) → MoreBag l k → ((n : ℕ) → u.known n p ≡ v.known n p) → u.asked p ≡ v.asked p → ((d : ℕ) → s d ≡ r d) → OneStands v l r p i t → OneStands u k s p i t
 token_kept v u l k r s p i t more known asked records h =
-    let cargo = cargo_same l k p (more.processes p) (more.notes p) in
+    let cargo = cargo_same l k p (resident_same l k p (more.processes p) more.board more.manager) (more.notes p) in
     one_keeps v u l k r s p i t (known_due v u p i t known)
     (λ due x. token_same v u l k r s p i t cargo asked (λ n. ap (λ (f : Pid → Option machine.KernelKnown). f p) (records n)) x (more.bag i x.message x.is))
     (λ off x. left_keeps l k p i x (λ asks. cargo) (more.bag i x.message x.is)) h
@@ -289,8 +291,8 @@ late_lines q late m c x home out = grind (arith, nat_tests)
 pub late_pair : (q : Point) (late : Late) → (late_point q late).view.pair ≡ q.view.pair
 late_pair q late = grind (arith, nat_tests)
 
-pub own_gives_same : (s : OneKernel) (v u : View) (a : Addresses) (id : MsgId) (q : Pid) (k : MessageKind) → u.acting ≡ v.acting → own_given s u a id q (sort_of k) ≡ own_given s v a id q (sort_of k)
-own_gives_same s v u a id q k e = grind (arith, nat_tests)
+pub own_gives_same : (s : OneKernel) (v u : View) (a : Addresses) (id : MsgId) (q : Pid) (k : MessageKind) → u.acting ≡ v.acting → u.moves ≡ v.moves → own_given s u a id q (sort_of k) ≡ own_given s v a id q (sort_of k)
+own_gives_same s v u a id q k e f = grind (arith, nat_tests)
 
 -- a put, where the message is told to be about this
 abbrev put_about : Point → ℕ → ℕ → Message → About → Addresses → Point
@@ -301,7 +303,7 @@ put_about q m c x a places = record {
 }
 
 left_gives : (q : Point) (p : Pid) (x : Message) → own_given q.kernel (moved q (Line.Migration Stage.Left p) q.kernel).view q.addresses x.id x.to.pid (sort_of (kind_of x.what)) ≡ own_given q.kernel q.view q.addresses x.id x.to.pid (sort_of (kind_of x.what))
-left_gives q p x = own_gives_same q.kernel q.view (moved q (Line.Migration Stage.Left p) q.kernel).view q.addresses x.id x.to.pid (kind_of x.what) refl
+left_gives q p x = own_gives_same q.kernel q.view (moved q (Line.Migration Stage.Left p) q.kernel).view q.addresses x.id x.to.pid (kind_of x.what) refl refl
 
 left_put : (q : Point) (p : Pid) (m c : ℕ) (x : Message) → q.view.topic ≡ Of p → put_point (moved q (Line.Migration Stage.Left p) q.kernel) m c x ≡ moved (put_point q m c x) (Line.Migration Stage.Left p) q.kernel
 left_put q p m c x e = λ i. moved (put_about q m c x (sym e i) (given q.addresses (first_gives (q.view.told x.id) (left_gives q p x i)))) (Line.Migration Stage.Left p) q.kernel

@@ -2,7 +2,7 @@
 use Rattle.dm_mirror.proofs.Names.{◌≡◌, ℕ, ◌==◌, Bool, true, false, refl, ap, ◌∙◌, sym, subst, Option, None, Some, false≢true, Pid, pid_of, Message, MsgId, What, MessageKind, kind_of, plain_message, with_what, incoming_of, Arrival, Phase}
 use Rattle.dm_mirror.proofs.Names.{Moves, is_between, is_early, sender_in, told_between, Point, View, Told, is_kernels, InPhases, Placed, AllOwnStand, told_of, AllRecords, Carries, TokenStands, TokensStand, destination_of, List, [], ◌∷◌}
 use Rattle.dm_mirror.proofs.Names.{◌++◌, map, inl, inr, arith, eqb_tells, Boot, at_machine, Run, KernelState, nat_tests, Part, sort_of, Cargo, ◌||◌, is_restart, cargo_at, Wanted, IsIn, Wants, LeftStands, pulls_piece, IsLeft, is_calloff}
-use Rattle.dm_mirror.proofs.Names.{destination_expects, source_holds, ◌+◌, length}
+use Rattle.dm_mirror.proofs.Names.{destination_expects, resident_at, source_holds, ◌+◌, length}
 use Rattle.dm_mirror.proofs.Turning.{is_moving, AllMayPut, AreCounted, AreGiven, First, Gives, Nothing, Own, Route, Row, Sends, Tells, TurnsAt, begun, given_parts, owns, part_of, rule_given, rule_own, rule_part_of}
 use Rattle.dm_mirror.proofs.Kernel.Sets.{eq_self, off_if, on_if, eq_apart}
 use Rattle.dm_mirror.proofs.Row.Lines.{StillKeeps, still_keeps, row_walks}
@@ -12,6 +12,7 @@ use Rattle.dm_kernel.specs.State as machine
 use Rattle.dm_rule.specs.Parts as rule
 use Rattle.dm_mirror.proofs.Cargoes.{cargo_same}
 use Rattle.dm_mirror.proofs.LeftOver.{DueOf, carries_plain, destination_is, due_of, due_same, left_held, left_keeps, left_plain, left_told, one_keeps, over_of, some_told}
+use Rattle.dm_rulelaws.proofs.Calling.{neither}
 
 -- what it carries doesn't depend on what comes while that isn't accepted yet, nor once it is called off
 carries_with : (p : Pid) (c : Cargo) (n : ℕ) (a b : Option Arrival) (w : What) → (is_early (kind_of w) ≡ false → is_calloff (kind_of w) ≡ false → a ≡ b) → Carries p c n a w → Carries p c n b w
@@ -39,10 +40,6 @@ held_on MessageKind.Refuse e = refl
 held_on MessageKind.CallOff e = refl
 held_on _ e = absurd (false≢true e)
 
-neither : (a b : Bool) → (a || b) ≡ false → (a ≡ false) × (b ≡ false)
-neither true b e = absurd (false≢true (sym e))
-neither false b e = (refl, e)
-
 moving_by : (v : View) (p : Pid) (i : MsgId) (t : Told) (k : MessageKind) (s d : ℕ) → t ≡ told_between p k s d → i.from ≡ pid_of (sender_in k s d) 0 → IsIn v p (Moves k s d (Some i)) → (c : Bool) → (is_early k || is_calloff k) ≡ c → Moving v p i t
 moving_by v p i t k s d is from inside true held = record {
   at = s;
@@ -60,7 +57,7 @@ moving_of v p i t h d = moving_by v p i t d.kind d.s d.d d.told d.from (subst (�
 
 -- what a row leaves of what moves
 pub record LeavesMoving (pt : Point) (l : Placed) (records : AllRecords) (next : Point) (placed : Placed) (after : AllRecords) : Type 0 where
-  pub process : (n : ℕ) (p : Pid) → is_moving (pt.view.known n p) ≡ true → placed.processes p ≡ l.processes p
+  pub resident : (n : ℕ) (p : Pid) → is_moving (pt.view.known n p) ≡ true → resident_at placed p ≡ resident_at l p
   pub notes : (n : ℕ) (p : Pid) → is_moving (pt.view.known n p) ≡ true → placed.notes p ≡ l.notes p
   pub records_ : (n : ℕ) (p : Pid) → is_moving (pt.view.known n p) ≡ true → records n p ≡ after n p
   pub told : next.view.told ≡ pt.view.told
@@ -79,7 +76,7 @@ token_keeps pt l records next placed after p i t g own h told s =
     ap (λ (r : Option machine.KernelKnown). incoming_of r) (g.records_ (destination_of i t) p (subst (λ (n : ℕ). is_moving (pt.view.known n p) ≡ true) at h.moving))) in
     record {
       cargo = s.cargo;
-      there = cargo_same l placed p (g.process h.at p h.moving) (g.notes h.at p h.moving) ∙ s.there;
+      there = cargo_same l placed p (g.resident h.at p h.moving) (g.notes h.at p h.moving) ∙ s.there;
       message = x;
       is = g.own i x none s.is;
       sender = s.sender;
@@ -93,7 +90,7 @@ over_keeps : (pt : Point) (l : Placed) (records : AllRecords) (next : Point) (pl
 over_keeps pt l records next placed after p i t h g own told left x =
     let kind : t.kind ≡ kind_of x.message.what = ap (λ (u : Told). u.kind) (left_told pt.view l p i t x own told) in
     left_keeps l placed p i x
-    (λ asks. let (s, d, held) = left_held pt.view p (h.of p) i t (h.each p) left (ap (λ (k : MessageKind). pulls_piece (sort_of k)) kind ∙ asks) in cargo_same l placed p (g.process s p (ap is_moving held)) (g.notes s p (ap is_moving held)))
+    (λ asks. let (s, d, held) = left_held pt.view p (h.of p) i t (h.each p) left (ap (λ (k : MessageKind). pulls_piece (sort_of k)) kind ∙ asks) in cargo_same l placed p (g.resident s p (ap is_moving held)) (g.notes s p (ap is_moving held)))
     (g.own i x.message (ap (with_what x.message) (left_plain p (cargo_at l p) x.message.what x.carries)) x.is)
 
 -- a message of the protocol is a kernel's own
@@ -152,9 +149,9 @@ routes_may (Tells xs) counted said next placed records e h = h e records
 -- what it leaves of what moves, on its machine and elsewhere
 row_leaves : (b : Boot) (m : ℕ) (pt : Point) (l : Placed) (records : AllRecords) (k : KernelState) → Run b pt → records m ≡ k.records → (r : Row b m pt l k) → LeavesMoving pt l records r.next r.placed (at_machine records m r.state.records)
 row_leaves b m pt l records k run same r = record {
-  process = λ n p is. elim (eqb_tells n m) [
+  resident = λ n p is. elim (eqb_tells n m) [
     | inl e ↦ (r.moving p (subst (λ (q : ℕ). is_moving (pt.view.known q p) ≡ true) e.1 is)).0
-    | inr e ↦ r.elsewhere.process n p e.1 (grind (arith, nat_tests))
+    | inr e ↦ r.elsewhere.resident n p e.1 (grind (arith, nat_tests))
   ];
   notes = λ n p is. elim (eqb_tells n m) [
     | inl e ↦ (r.moving p (subst (λ (q : ℕ). is_moving (pt.view.known q p) ≡ true) e.1 is)).2

@@ -4,7 +4,7 @@ use Rattle.dm_mirror.proofs.Names.{pid_eq, plain_link, Message, MsgId, What, Rec
 use Rattle.dm_mirror.proofs.Names.{bind, when, Life, Alive, OneKernel, plain_process, plain_status, PlainProcess, receive_refusals, first_failed, length-written, Completion, plain_completed, status_plainly, id_eq-is, pid_eq-same, Point}
 use Rattle.dm_mirror.proofs.Names.{moved, moved_back, without_id, Spot, Queue, times, standing, StandsRight, View, serving, once_at, set_at, Placed, Ends, completed_matches, with_queue, KernelState, turned, with_here, AreMessages, not}
 use Rattle.dm_mirror.proofs.Names.{is_some, option_map, pid_of, status_is_runnable, pid_eq-is, Phase, Rests, knows, stands_right, letter_of, InPhases, rests_here, rings, both, Run, queue_drops, Mirrors, mirrors_view, IsLawfulState}
-use Rattle.dm_mirror.proofs.Names.{of_known, AllOwnStand, MadeStands, KernelStands, Part, here_free, at_hand_of, IsValid}
+use Rattle.dm_mirror.proofs.Names.{of_known, resident_at, AllOwnStand, Resident, MadeStands, KernelStands, Part, here_free, at_hand_of, IsValid}
 use Rattle.dm_syscall.specs.Completing.{IsAwaited}
 use Rattle.dm_onekernel.specs.Receiving as receiving
 use Rattle.dm_onekernel.specs.Service as service
@@ -16,12 +16,13 @@ use Rattle.dm_kernel.specs.State as machine
 use Rattle.dm_kernel.specs.Serve as serve
 use Rattle.dm_rule.specs.View as view
 use Rattle.dm_kernel.specs.Turn as turn
-use Rattle.dm_mirror.proofs.Kernel.Sets.{Leaves, view_leaves_on, kernel_leaves_on, placed_leaves_on, is_queue_of, off_if, on_if, messages_on, eq_self, IsAway, elsewhere_of, queue_not_elsewhere, not_is, view_serving, view_queue}
+use Rattle.dm_mirror.proofs.Kernel.Sets.{Leaves, leaves_resident, view_leaves_on, kernel_leaves_on, placed_leaves_on, is_queue_of, off_if, on_if, messages_on, eq_self, IsAway, elsewhere_of, queue_not_elsewhere, not_is, view_serving, view_queue}
 use Rattle.dm_mirror.proofs.Kernel.Sets.{kernel_sets, kernel_out, placed_sets, placed_out, NotOwn, not_own_some, machine_on, record_on, label_mirrors, after_label, view_same, kernel_same, placed_same}
 use Rattle.dm_mirror.proofs.Serve.Runs.{Found, found, here_of, in_ring, first_runs, first_same}
 use Rattle.dm_mirror.proofs.Serving.{Served, Acts, acts_as, moved_round, goes_on_acts, is_for, queue_alone}
 use Rattle.dm_mirror.proofs.Turning.{NoneEnds, Elsewhere, Row, Sends, begun, is_moving}
 use Rattle.dm_mirror.proofs.Serve.Executes.{executes_acts}
+use Rattle.dm_mirror.proofs.Residents.{same_system}
 use Rattle.dm_mirror.proofs.Buries.{absent_from, preds_are, untold_from}
 use Rattle.dm_rule.specs.Burying as burying
 use Rattle.dm_mirror.proofs.Follow.Updates.{rests_away as away_of}
@@ -257,14 +258,14 @@ serves_acts b m pt l k p lawful c =
     let s = c.served in
     acts_as b m (begun pt m) l k p (turn.goes_round b k (Some p)) (serve.serves_status b.quantum (moved_round k p) p x x.status) (rule.goes_round b pt m (Some p)) (rule.serves_status b.quantum pt.kernel p (pt.view.queue m p) (burying.ends_with pt m p) (plain_process x) (plain_status x.status))
     (ap (serve.serves b.quantum (moved_round k p) p) s.at.record_is) (ap (λ (o : Option Life). bind (kernel.alive o) (λ (z : PlainProcess). rule.serves_status b.quantum pt.kernel p (pt.view.queue m p) (burying.ends_with pt m p) z z.status)) s.at.alive)
-    (status_acts b m (begun pt m) l k p x x.status s (of_known k p (Some (Record.Here x)) lawful s.at.record_is) refl c.goes)
+    (status_acts b m (begun pt m) l k p x x.status s (of_known k p (Some (Record.Here (Resident.Process x))) lawful s.at.record_is) refl c.goes)
 
 -- what a served process gives is a row, and so is a turn in which the machine idles
 pub record Round (b : Boot) (m : ℕ) (pt : Point) (l : Placed) (k : KernelState) (o : Option Pid) : Type 0 where
   pub p : Pid
   pub acts : Acts b m (begun pt m) l k p (turn.goes_round b k o) (rule.goes_round b pt m o)
   pub elsewhere : Elsewhere m (begun pt m) l acts.next acts.placed
-  pub moving : (q : Pid) → is_moving (pt.view.known m q) ≡ true → (acts.placed.processes q ≡ l.processes q) × (acts.state.records q ≡ k.records q) × (acts.placed.notes q ≡ l.notes q)
+  pub moving : (q : Pid) → is_moving (pt.view.known m q) ≡ true → (resident_at acts.placed q ≡ resident_at l q) × (acts.state.records q ≡ k.records q) × (acts.placed.notes q ≡ l.notes q)
 
 abbrev idle_acts : (b : Boot) (m : ℕ) (pt : Point) (l : Placed) (k : KernelState) (p : Pid) → Mirrors pt.kernel pt.view pt.addresses l → KernelStands b pt l m k → Acts b m (begun pt m) l k p (turn.goes_round b k None) (rule.goes_round b pt m None)
 idle_acts b m pt l k p mirrors stands = record {
@@ -297,7 +298,7 @@ round_of : (b : Boot) (m : ℕ) (pt : Point) (l : Placed) (k : KernelState) (o :
 round_of b m pt l k None first h = record {
   p = pid_of m 0;
   acts = idle_acts b m pt l k (pid_of m 0) h.mirrors h.stands;
-  elsewhere = search;
+  elsewhere = (let system = same_system l in search);
   moving = λ q is. (refl, refl, refl);
 }
 round_of b m pt l k (Some p) first h =
@@ -308,7 +309,7 @@ round_of b m pt l k (Some p) first h =
       p = p;
       acts = a;
       elsewhere = elsewhere_of m (is_queue_of m p) p (begun pt m) a.next l a.placed s.at.away refl (queue_not_elsewhere m p) a.leaves;
-      moving = λ q is. (let off = here_apart pt.view m p q s.at.known is in (a.leaves.placed_.process q off, a.records q off, a.leaves.placed_.notes q));
+      moving = λ q is. (let off = here_apart pt.view m p q s.at.known is in (leaves_resident (is_queue_of m p) p (begun pt m).view l a.placed a.leaves.placed_ q off, a.records q off, a.leaves.placed_.notes q));
     }
 
 no_messages : (bag : MsgId → Option Message) (ms : List Message) → AreMessages bag [] ms → ms ≡ []

@@ -3,11 +3,12 @@ use Rattle.dm_mirror.proofs.Names.{◌≡◌, ℕ, zero, suc, ◌+◌, ◌<◌, 
 use Rattle.dm_mirror.proofs.Names.{false≢true, Pid, Message, MsgId, Record, Halt, id_eq, plain_message, plain_what, with_what, Regs, Fault, Row, instruction, first_on, is_on, what_is_on, without_first_on, status_is_runnable, Process}
 use Rattle.dm_mirror.proofs.Names.{Status, Boot, bind, Life, Alive, OneKernel, plain_process, plain_status, PlainProcess, Machine, pid_eq-same, id_eq-is, id_eq-same, Point, without_id, times, is_server, rings, Placed, MirrorsKernel}
 use Rattle.dm_mirror.proofs.Names.{with_queue, KernelState, AreMessages, KnownStands, KernelStands, ◌==◌, pid_eq, Label, Why, out_off, Line, moved, after, without_front, Spot, Queue, Inbox, standing, View, handled, dropped_for, receiver_of}
-use Rattle.dm_mirror.proofs.Names.{Droppable, droppable_on, dropped_is, Mirrors, user_dropped, Part, option_map_or, drop, Ended}
+use Rattle.dm_mirror.proofs.Names.{Droppable, droppable_on, dropped_is, Mirrors, Resident, user_dropped, Part, option_map_or, drop, Ended}
 use Rattle.dm_places.specs.PlacedStep.{without_message}
 use Rattle.dm_mirror.proofs.Kernel.Sets.{times_self, times_more, ViewLeaves, Leaves, view_leaves_on, leaves_on, view_same, view_queue, view_not_handled, kernel_same, kernel_out, placed_same, placed_out, not_own_there, label_mirrors}
 use Rattle.dm_mirror.proofs.Kernel.Sets.{after_label}
 use Rattle.dm_mirror.proofs.Turning.{are_still}
+use Rattle.dm_mirror.proofs.Recorded.{recorded_process}
 use Rattle.dm_onekernel.specs.Step as kernel
 use Rattle.dm_rule.specs.Rule as rule
 use Rattle.dm_rule.specs.View as view
@@ -87,20 +88,29 @@ found l mask (i ∷ is) (n ∷ ns) m names are e =
 -- a living process of machine m is there, as the kernel without machines has it
 pub record IsHere (pt : Point) (l : Placed) (m : ℕ) (k : KernelState) (p : Pid) (z : PlainProcess) : Type 0 where
   pub x : Process
-  pub record_is : k.records p ≡ Some (Record.Here x)
+  pub record_is : k.records p ≡ Some (Record.Here (Resident.Process x))
   pub queue : List Message
   pub there : l.processes p ≡ Some (with_queue x queue)
   pub messages : AreMessages l.bag (pt.view.queue m p) x.queue
   pub plain : z ≡ plain_process x
   pub known : pt.view.known m p ≡ view.Here
 
-here_at : (pt : Point) (l : Placed) (m : ℕ) (k : KernelState) (p : Pid) (z : PlainProcess) (r : Option machine.KernelKnown) → k.records p ≡ r → pt.view.known m p ≡ view.Here → KnownStands l p (pt.view.queue m p) (pt.view.held m p) view.Here r
-    → MirrorsKernel pt.kernel l → pt.kernel.processes p ≡ Some (Alive z) → IsHere pt l m k p z
-here_at pt l m k p z (Some (Record.Here x)) e known h mirrors alive = grind (arith, nat_tests, h.0.1, h.0.0, h.1)
-here_at pt l m k p z r e known h mirrors alive = absurd h
+-- as the one kernel has it
+plain_there : (s : OneKernel) (l : Placed) (p : Pid) (x : Process) (queue : List Message) (z : PlainProcess) → MirrorsKernel s l → l.processes p ≡ Some (with_queue x queue) → s.processes p ≡ Some (Alive z) → z ≡ plain_process x
+plain_there s l p x queue z mirrors there alive = grind (arith, nat_tests)
 
 pub here_of : (b : Boot) (pt : Point) (l : Placed) (m : ℕ) (k : KernelState) (p : Pid) (z : PlainProcess) → KernelStands b pt l m k → MirrorsKernel pt.kernel l → pt.view.known m p ≡ view.Here → is_server p ≡ false → pt.kernel.processes p ≡ Some (Alive z) → IsHere pt l m k p z
-here_of b pt l m k p z h mirrors here server alive = grind (arith, nat_tests, here_at, k.records, pt.view.queue, pt.view.held, h.known)
+here_of b pt l m k p z h mirrors here server alive =
+    let r = recorded_process b pt l m k p h server here in
+    record {
+      x = r.process;
+      record_is = r.is;
+      queue = r.waits;
+      there = r.there;
+      messages = r.messages;
+      plain = plain_there pt.kernel l p r.process r.waits z mirrors r.there alive;
+      known = here;
+    }
 
 -- it can be served by the rule where it can by the machine
 some_same : (o : Option Message) → is_some (option_map id_in o) ≡ is_some o

@@ -1,6 +1,6 @@
 -- A ready process is served: it uses up its quantum, or stops at a call or a fault.
 use Rattle.dm_mirror.proofs.Names.{◌≡◌, ℕ, ◌+◌, ◌≤◌, Bool, false, List, [], ◌∷◌, map, length, refl, ap, ◌∙◌, sym, subst, arith, nat_le, is_some, true, not, ◌==◌, ◌&&◌, None, Some, false≢true, nat_tests, Pid, pid_eq, Message, MsgId, id_eq}
-use Rattle.dm_mirror.proofs.Names.{PlainMessage, plain_message, Process, Record, Label, Called, Line, Known, Boot, Why, Alive, OneKernel, with_process, plain_process, PlainProcess, id_eq-same, pid_eq-same, not_counted, counts_process}
+use Rattle.dm_mirror.proofs.Names.{PlainMessage, plain_message, Process, Record, Resident, Label, Called, Line, Known, Boot, Why, Alive, OneKernel, with_process, plain_process, PlainProcess, id_eq-same, pid_eq-same, not_counted, counts_process}
 use Rattle.dm_mirror.proofs.Names.{not_server, after_ran, nexts, Point, moved, moved_back, Spot, Queue, times, standing, View, is_kernels, set_at, droppable_on, Placed, parts, with_queue, KernelState, turned, with_here, AllOwnStand}
 use Rattle.dm_mirror.proofs.Names.{AreMessages, if◌then◌else◌, Status, plain_status, Machine, Mirrors, StepNeeds, ran_matches, running_of, Part, seen, Ended, ◌++◌, MessageKind, Option, Told, id_of, pid_of, to_kernel, nobody}
 use Rattle.dm_rulelaws.proofs.Names.{with_sent}
@@ -188,9 +188,8 @@ ends_acts b m pt l k p x y z c because s r step with_ queue_is memory =
       kernel = ends_stands b m t p pt d.next l d.placed k n x z because s.at leaves
           (record {
             here = refl;
-            records = λ q off. off_if (pid_eq p q) None ((with_here (moved_round k p) p z).records q) off ∙ off_if (pid_eq p q) (Some (Record.Here z)) (k.records q) off;
+            records = λ q off. off_if (pid_eq p q) None ((with_here (moved_round k p) p z).records q) off ∙ off_if (pid_eq p q) (Some (Record.Here (Resident.Process z))) (k.records q) off;
             made = refl;
-            servers = refl;
             preds = λ q off. others_kept k.preds p q off;
           })
           (λ q off. queue_of_others m p q off) (λ q. refl) (on_if (pid_eq p p) None ((with_here (moved_round k p) p z).records p) (pid_eq-same p)) (none_kept k.preds p p (pid_eq-same p)) (d.preds ∙ record_on o.view.preds o.view.acting m p nobody s.acting) refl ring
@@ -207,5 +206,5 @@ ends_acts b m pt l k p x y z c because s r step with_ queue_is memory =
       still = drops_still ids;
       over = OneEnds m p because refl refl (one_ends pt.kernel d.next.kernel p because leaves.kernel.life (d.process ∙ ended));
       count = ap (λ (j : ℕ). k.sent + j) (sym (many_buries k1 p tos));
-      records = λ q off. off_if (pid_eq p q) None ((with_here (moved_round k p) p z).records q) off ∙ off_if (pid_eq p q) (Some (Record.Here z)) (k.records q) off;
+      records = λ q off. off_if (pid_eq p q) None ((with_here (moved_round k p) p z).records q) off ∙ off_if (pid_eq p q) (Some (Record.Here (Resident.Process z))) (k.records q) off;
     }
