@@ -11,12 +11,9 @@ use Rattle.dm_check.proofs.Heads.{IsHeaded, headed}
 use Rattle.dm_check.proofs.Dues.{front_due, head_due}
 use Rattle.dm_check.proofs.Judging.{due_group, lines_append}
 use Rattle.dm_check.proofs.Straying.{judged_on, stray_judged, worn_judged}
+use Rattle.dm_run.proofs.Printing.{joined_last}
 
-pub joined_last : (gs : List (List Line)) (g : List Line) → joined (gs ++ g ∷ []) ≡ joined gs ++ g
-joined_last [] g = append-nil g
-joined_last (h ∷ hs) g = ap (λ (ls : List Line). h ++ ls) (joined_last hs g) ∙ sym (append_assoc h (joined hs) g)
-
-heads_last : (es : List Step) (gs : List (List Line)) (e : Step) (g rest : List Line) → AreHeads es gs → g ≡ line.Head e ∷ rest → AreHeads (es ++ e ∷ []) (gs ++ g ∷ [])
+pub heads_last : (es : List Step) (gs : List (List Line)) (e : Step) (g rest : List Line) → AreHeads es gs → g ≡ line.Head e ∷ rest → AreHeads (es ++ e ∷ []) (gs ++ g ∷ [])
 heads_last [] [] e g rest h is = ((rest, is), tt)
 heads_last [] (k ∷ gs) e g rest h is = absurd h
 heads_last (d ∷ es) [] e g rest h is = absurd h

@@ -1,5 +1,5 @@
 -- What machines print for a directive begins with its head.
-use Rattle.dm_check.proofs.Names.{◌≡◌, ℕ, ◌+◌, List, [], ◌∷◌, ap, sym, Option, None, Some, Result, Ok, Err, Boot, Step, Line, WorldState, Said, Says, WornOut, world_step}
+use Rattle.dm_check.proofs.Names.{◌≡◌, ℕ, ◌+◌, List, [], ◌∷◌, ap, length, sym, Option, None, Some, Result, Ok, Err, Boot, Step, Line, WorldState, Said, Says, WornOut, world_step}
 use Rattle.dm_packet.specs.declared.Packet.{Packet}
 use Rattle.dm_packet.specs.declared.Packet.TheVariants as packet
 use Rattle.dm_packet.specs.declared.PacketError.{PacketError}
@@ -11,7 +11,8 @@ use Rattle.dm_node.specs.Out.{Acts, Goes, Worn}
 use Rattle.dm_node.specs.Acts as node
 use Rattle.dm_wire.specs.Sent.{bytes_at}
 use Rattle.dm_wire.specs.Wire.{after_mark}
-use Rattle.dm_world.specs.World.{acted, keeps_over, turned, delivers, reads}
+use Rattle.dm_link.specs.declared.Pid.{Pid}
+use Rattle.dm_world.specs.World.{acted, asks_at, keeps_over, seat_of, turned, delivers, reads}
 
 -- these lines do
 abbrev pub IsHeaded : Step → List Line → Type 0
@@ -34,9 +35,16 @@ delivers_headed : (w : WorldState) (e : Step) (a c k : ℕ) (o : Option (List �
 delivers_headed w e a c k None s is = let f : nothing w e ≡ s = cc in (_, sym (ap (λ (x : Said). x.lines) f))
 delivers_headed w e a c k (Some bytes) s is = reads_headed (record w { wires = after_mark w.wires a c k }) e a c (packet_of bytes) s is
 
+abbrev away : WorldState → Step → Said
+away w e = record { state = record w { groups = w.groups + 1 }; lines = line.Head e ∷ line.Away ∷ [] }
+
+asks_headed : (w : WorldState) (e : Step) (p : Pid) (m : ℕ) (o : Option ℕ) (s : Said) → asks_at w e p m o ≡ Some (Says s) → IsHeaded e s.lines
+asks_headed w e p m None s is = let f : away w e ≡ s = cc in (_, sym (ap (λ (x : Said). x.lines) f))
+asks_headed w e p m (Some seat) s is = turned_headed w e seat (node.asks_move (w.nodes seat) p m) s is
+
 pub headed : (b : Boot) (w : WorldState) (e : Step) (s : Said) → world_step b w e ≡ Some (Says s) → IsHeaded e s.lines
 headed b w (step.Turn m) s is = turned_headed (keeps_over w (node.turn b (w.nodes m))) (step.Turn m) m (node.turn b (w.nodes m)) s is
 headed b w (step.Tick m) s is = let f : acted w (step.Tick m) m (node.tick (w.nodes m)) ≡ s = cc in (_, sym (ap (λ (x : Said). x.lines) f))
 headed b w (step.Deliver a c k) s is = delivers_headed w (step.Deliver a c k) a c k (bytes_at (w.wires a c) k) s is
-headed b w (step.Migrate p m) s is = turned_headed w (step.Migrate p m) 0 (node.asks_move (w.nodes 0) p m) s is
+headed b w (step.Migrate p m) s is = asks_headed w (step.Migrate p m) p m (seat_of (length b.machines) w.nodes) s is
 headed b w (step.CallOff p m) s is = turned_headed w (step.CallOff p m) m (node.calls_off (w.nodes m) p) s is

@@ -7,11 +7,8 @@ use Rattle.dm_check.proofs.Names.{Stands, Falls, is_line_text, behind_line, told
 use Rattle.dm_check.specs.declared.stop.CheckError.TheVariants as stop
 use Rattle.dm_check.specs.Judge as judge
 use Rattle.dm_check.specs.declared.follow.Stray.TheVariants as stray
-
--- what holds of the one error holds of the error there is
-pub if_err : {A E : Type 0} (r : Result A E) (e : E) (P : E → Type 0) → IsErr r × IsErrAnd r (λ y. y ≡ e) → P e → IfErr r P
-if_err (Ok x) e P h p = absurd (false≢true h.0)
-if_err (Err y) e P h p = subst P (sym h.1) p
+pub use Rattle.dm_run.proofs.Going.{if_err}
+pub use Rattle.dm_run.proofs.Printing.{text_append as lines_append}
 
 -- a refusal is the verdict
 pub refused_as : (v : Verdict) (x : CheckError) (line : ℕ) (f : TraceFault) → x ≡ stop.Refused line f → v ≡ Refused line f → RefusedSo v x
@@ -33,12 +30,6 @@ none_left (x ∷ xs) h = absurd (some (length (x ∷ xs)) (omega arith) h)
 pub first_of : (w : List ℕ) (ps : List (List ℕ)) → (ps ≡ [] → ⊥) → first_line (w ∷ ps) ≡ Some w
 first_of w [] some = absurd (some refl)
 first_of w (p ∷ ps) some = refl
-
--- lines behind lines
-pub lines_append : (a b : List Line) → text_of_lines (a ++ b) ≡ text_of_lines a ++ text_of_lines b
-unfolding text_of_lines
-lines_append [] b = refl
-lines_append (l ∷ ls) b = ap (λ t. text l ++ t) (lines_append ls b) ∙ sym (append_assoc (text l) (text_of_lines ls) (text_of_lines b))
 
 -- the text is over
 pub at_text_end : (c : Course) (due : Due) (number : ℕ) → judged_from c due number (pieces 10 []) ≡ text_ended due number

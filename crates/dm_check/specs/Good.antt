@@ -45,8 +45,8 @@ pub record IsPrinted (b : Boot) (bytes : List ℕ) (count : ℕ) (ended : Bool) 
   pub heads : AreHeads steps groups
   pub counts : length groups ≡ count
   pub fits : All LineFits (joined groups)
-  pub ends_fit : EndsFit ended (end_lines (length b.machines) world)
-  pub text : bytes ≡ text_of_lines (joined groups) ++ text_behind ended (end_lines (length b.machines) world)
+  pub ends_fit : EndsFit ended (end_lines b world)
+  pub text : bytes ≡ text_of_lines (joined groups) ++ text_behind ended (end_lines b world)
 
 -- the verdict on such a text
 abbrev pub good_verdict : ℕ → Bool → Verdict

@@ -124,7 +124,7 @@ told quantum (line.Stale i) ws = Falls NotDue
 told quantum (line.Proto i) ws = Falls NotDue
 told quantum (line.NoChild p) ws = Falls NotDue
 told quantum (line.NoCall p) ws = Falls NotDue
-told quantum (line.Pinned p) ws = Falls NotDue
+told quantum line.Away ws = Falls NotDue
 
 -- a line where this one is due
 abbrev pub at_line : ℕ → Line → List Line → List Step → List ℕ → Judgement

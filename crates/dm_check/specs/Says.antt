@@ -20,7 +20,7 @@ pub record SaysAs (b : Boot) (c : Course) : Type 0 where
   pub quantum : c.quantum ≡ b.quantum
   pub goes : (es : List Step) (gs : List (List Line)) (w : WorldState) (e : Step) (lines : List Line) (u : WorldState) → Went b es gs w → Does b w e lines u → c.group es e ≡ Some lines
   pub worn : (es : List Step) (gs : List (List Line)) (w : WorldState) (e : Step) (from to : ℕ) → Went b es gs w → WearsBy b w e from to → c.group es e ≡ None
-  pub ends : (es : List Step) (gs : List (List Line)) (w : WorldState) → Went b es gs w → c.ends es ≡ end_lines (length b.machines) w
+  pub ends : (es : List Step) (gs : List (List Line)) (w : WorldState) → Went b es gs w → c.ends es ≡ end_lines b w
   pub full : (es : List Step) (gs : List (List Line)) (w : WorldState) → Went b es gs w → All IsFull (c.ends es)
 
 -- the verdict on a text by whatever says what the machines of this boot file say

@@ -174,8 +174,8 @@ fn is_ended(world: &World, text: &[u8], number: u64, page: &mut Vec<u8>) -> Resu
     requires room { number + length text.now < 2 ^ 62 }
     ensures verdict { (k : Course) (es : List TheStep) (gs : List (List TheLine)) → SaysAs world.now.boot k → Went world.now.boot es gs (world_state world.now) →
         IfOk result (λ ended. judged_from k (judge.Head es) number (pieces 10 text.now) ≡ good_verdict (length es) ended) }
-    ensures text { IfOk result (λ ended. text.now ≡ text_behind ended (ends_of (length world.now.boot.machines) (world_state world.now))) }
-    ensures fits { IfOk result (λ ended. EndsFit ended (ends_of (length world.now.boot.machines) (world_state world.now))) }
+    ensures text { IfOk result (λ ended. text.now ≡ text_behind ended (ends_of world.now.boot (world_state world.now))) }
+    ensures fits { IfOk result (λ ended. EndsFit ended (ends_of world.now.boot (world_state world.now))) }
     ensures refused { IfErr result (JudgedThere world.now.boot (world_state world.now) number (pieces 10 text.now)) }
 {
     if text.is_empty() {

@@ -14,6 +14,7 @@ use Rattle.dm_checklaws.specs.Before.{Begins, Fewer, Printed, LinesBeforeArePrin
 use Rattle.dm_checklaws.proofs.First.{last_from}
 use Rattle.dm_checklaws.proofs.Going.{Came, came_first, came_on, due_group}
 use Rattle.dm_checklaws.proofs.Led.{ends_there, led_of}
+use Rattle.dm_mirror.proofs.Going.{joined_last}
 
 -- these lines are left of the last group of a run, whose text begins so
 record DueLines (b : Boot) (said : List ℕ) (left : List Line) (es : List Step) : Type 0 where
@@ -176,11 +177,6 @@ end_test b said x es n w d false h other is = absurd (cc)
 end_goes : (b : Boot) (said : List ℕ) (es : List EndLine) (n : ℕ) (w : List ℕ) (d : Due) → DueEnds b said es → at_end es n w ≡ Stands d → Goes b said w d
 end_goes b said [] n w d h is = absurd (cc)
 end_goes b said (x ∷ es) n w d h is = end_test b said x es n w d (is_line_text w (end_text x)) h refl is
-
--- the group of a head is due
-joined_last : (gs : List (List Line)) (g : List Line) → joined (gs ++ g ∷ []) ≡ joined gs ++ g
-joined_last [] g = append-nil g
-joined_last (h ∷ hs) g = ap (λ (ls : List Line). h ++ ls) (joined_last hs g) ∙ sym (append_assoc h (joined hs) g)
 
 new_group : (b : Boot) (said : List ℕ) (es : List Step) (e : Step) (ls : List Line) → IsValid b → DueLines b said [] es → can_hold (length b.machines) e ≡ true → (by_rule b).group es e ≡ Some ls → DueLines b said ls (es ++ e ∷ [])
 unfolding text_of_lines

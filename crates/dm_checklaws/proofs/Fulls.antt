@@ -2,6 +2,7 @@
 use Rattle.dm_checklaws.proofs.Names.{◌≡◌, ◌≢◌, ℕ, zero, suc, ◌+◌, ◌-◌, ◌*◌, ◌/◌, ◌<◌, ◌≤◌, ◌==◌, Bool, true, false, ◌&&◌, nat_le, if◌then◌else◌, List, [], ◌∷◌, ◌++◌, length, take, drop, get_or, refl, ap, sym, ◌∙◌, arith, Some, None}
 use Rattle.dm_checklaws.proofs.Names.{All, Option, nat_tests, length-take, All-nil, All-cons, All-append, Pid, pid_of, PlainLink, MsgId, first_number, manager, switchboard, Life, Alive, NamedLink, Pending, PlainProcess, EndLine}
 use Rattle.dm_checklaws.proofs.Names.{before_zeros, trimmed, block_line, memory_lines, home_with, joined_below, list_line, Addresses, Stood, end_lines, Point, untaken, View, IsFull}
+use Rattle.std.specs.Option.{option_map_or}
 use Rattle.dm_onekernel.specs.Kernel as kernel
 use Rattle.dm_line.specs.declared.end_line.EndLine.TheVariants as end
 use Rattle.dm_rule.specs.Ends as ends
@@ -126,15 +127,30 @@ queue_full : (v : View) (p : Pid) (o : Option Stood) → AreFull (ends.queue_at 
 queue_full v p None = none_full
 queue_full v p (Some s) = list_full (end.Queue p) (v.queue s.at p) (λ i is. omega arith)
 
+-- a server's own line, and where it stands
+placed_full : (p : Pid) (s : Stood) (moved : Bool) → AreFull (if moved then end.Place p s.at s.standing ∷ [] else [])
+placed_full p s true = one_full (end.Place p s.at s.standing) tt
+placed_full p s false = none_full
+
+place_full : (p : Pid) (o : Option Stood) → AreFull (option_map_or (ends.place_line p) o [])
+place_full p None = none_full
+place_full p (Some s) = placed_full p s (ends.is_moved s)
+
+sent_full : (p : Pid) (sent : ℕ) (o : Option Stood) → AreFull (ends.sent_lines p sent o)
+sent_full p sent o = then_full (end.Server p sent) (option_map_or (ends.place_line p) o []) tt (place_full p o)
+
 servers_full : (pt : Point) → AreNames pt.kernel.switchboard.names → AreFull (ends.server_lines pt)
 servers_full pt names =
     let named = ends.name_lines pt.addresses 0 pt.kernel.switchboard.names in
     let children = ends.child_lines pt.addresses 1 pt.kernel.manager.children in
     let pending = ends.pending_lines pt.kernel.manager.pending in
-    let one : EndLine = end.Server switchboard pt.kernel.switchboard.sent in
-    let two : EndLine = end.Server manager pt.kernel.manager.sent in
-    both_full (one ∷ two ∷ named ++ children) pending
-    (both_full (one ∷ two ∷ named) children (then_full one (two ∷ named) tt (then_full two named tt (names_full pt.addresses 0 pt.kernel.switchboard.names names))) (children_full pt.addresses 1 pt.kernel.manager.children))
+    let one = ends.sent_lines switchboard pt.kernel.switchboard.sent (ends.stood pt.view switchboard pt.kernel.machines) in
+    let two = ends.sent_lines manager pt.kernel.manager.sent (ends.stood pt.view manager pt.kernel.machines) in
+    both_full (one ++ two ++ named ++ children) pending
+    (both_full (one ++ two ++ named) children
+    (both_full (one ++ two) named
+    (both_full one two (sent_full switchboard pt.kernel.switchboard.sent (ends.stood pt.view switchboard pt.kernel.machines)) (sent_full manager pt.kernel.manager.sent (ends.stood pt.view manager pt.kernel.machines)))
+    (names_full pt.addresses 0 pt.kernel.switchboard.names names)) (children_full pt.addresses 1 pt.kernel.manager.children))
     (pending_full pt.kernel.manager.pending)
 
 abbrev first_lines : Point → List EndLine
@@ -151,8 +167,15 @@ queues_full pt =
 
 holding_full : (pt : Point) → AreFull (ends.holding_lines pt)
 holding_full pt =
-    machine_full (λ m. ends.each_process pt (λ p. list_line (end.Holding m p) (pt.view.held m p))) pt.kernel.machines
-    (λ m. homes_full pt (λ p. list_line (end.Holding m p) (pt.view.held m p)) pt.kernel.machines (λ p. list_full (end.Holding m p) (pt.view.held m p) (λ i is. omega arith)))
+    machine_full (λ m. ends.each_holder pt (λ p. list_line (end.Holding m p) (pt.view.held m p))) pt.kernel.machines (λ m. held_full m)
+  where
+    line_full : (m : ℕ) (p : Pid) → AreFull (list_line (end.Holding m p) (pt.view.held m p))
+    line_full m p = list_full (end.Holding m p) (pt.view.held m p) (λ i is. omega arith)
+
+    held_full : (m : ℕ) → AreFull (ends.each_holder pt (λ p. list_line (end.Holding m p) (pt.view.held m p)))
+    held_full m =
+        let f : Pid → List EndLine = λ p. list_line (end.Holding m p) (pt.view.held m p) in
+        both_full (f switchboard ++ f manager) (ends.each_process pt f) (both_full (f switchboard) (f manager) (line_full m switchboard) (line_full m manager)) (homes_full pt f pt.kernel.machines (line_full m))
 
 inbox_full : (pt : Point) → AreFull (ends.inbox_lines pt)
 inbox_full pt = machine_full (λ m. list_line (end.Inbox m) (pt.view.inbox m)) pt.kernel.machines (λ m. list_full (end.Inbox m) (pt.view.inbox m) (λ i is. omega arith))

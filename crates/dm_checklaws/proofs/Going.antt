@@ -15,6 +15,7 @@ use Rattle.dm_mirror.proofs.Next.{machines_stay}
 use Rattle.dm_check.specs.Good.{AreHeads}
 use Rattle.dm_checklaws.proofs.Counts.{Within, lines_within}
 use Rattle.dm_checklaws.proofs.Groups.{group_head}
+use Rattle.dm_check.proofs.Checks.{heads_last}
 
 -- a run that came there
 pub record Came (b : Boot) (es : List Step) (gs : List (List Line)) (pt : Point) : Type 0 where
@@ -34,21 +35,21 @@ came_first b = record {
 }
 
 -- a directive that a schedule can hold is for its machines
-both_first : (x y : Bool) → x && y ≡ true → x ≡ true
+pub both_first : (x y : Bool) → x && y ≡ true → x ≡ true
 both_first true y e = refl
 both_first false y e = e
 
-both_second : (x y : Bool) → x && y ≡ true → y ≡ true
+pub both_second : (x y : Bool) → x && y ≡ true → y ≡ true
 both_second true y e = e
 both_second false y e = absurd (cc)
 
-is_below : (a n : ℕ) → nat_lt a n ≡ true → a < n
+pub is_below : (a n : ℕ) → nat_lt a n ≡ true → a < n
 is_below a n e = grind (arith, nat_tests)
 
-differ : (a b : ℕ) → not (a == b) ≡ true → a ≢ b
+pub differ : (a b : ℕ) → not (a == b) ≡ true → a ≢ b
 differ a b e = grind (arith, nat_tests)
 
-held_fits : (n : ℕ) (e : Step) → can_hold n e ≡ true → IsStep n e
+pub held_fits : (n : ℕ) (e : Step) → can_hold n e ≡ true → IsStep n e
 held_fits n (step.Turn m) h = is_below m n h
 held_fits n (step.Tick m) h = is_below m n h
 held_fits n (step.Deliver a b k) h =
@@ -62,12 +63,6 @@ run_before : (b : Boot) (es : List Step) (gs : List (List Line)) (pt : Point) (e
 run_before b es gs pt e run =
     subst (λ (ds : List Directive). IsRun b (first_point b) (all_of ds) gs pt (all_of (directive.One e ∷ []))) (sym (map-append directive.One es (e ∷ [])))
     (run_behind b gs (first_point b) pt (all_of (ones es)) (all_of []) (directive.One e ∷ []) run)
-
-heads_last : (es : List Step) (gs : List (List Line)) (e : Step) (g rest : List Line) → AreHeads es gs → g ≡ line.Head e ∷ rest → AreHeads (es ++ e ∷ []) (gs ++ g ∷ [])
-heads_last [] [] e g rest h is = ((rest, is), tt)
-heads_last [] (k ∷ gs) e g rest h is = absurd h
-heads_last (d ∷ es) [] e g rest h is = absurd h
-heads_last (d ∷ es) (k ∷ gs) e g rest h is = (h.0, heads_last es gs e g rest h.1 is)
 
 pub came_on : (b : Boot) (es : List Step) (gs : List (List Line)) (pt : Point) (e : Step) (w : Spelled) → IsValid b → Came b es gs pt → can_hold (length b.machines) e ≡ true → group_of b pt e ≡ Some w → worn_in b.numbers pt.view w.lines ≡ None
     → Came b (es ++ e ∷ []) (gs ++ w.lines ∷ []) w.point

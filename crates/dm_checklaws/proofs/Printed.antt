@@ -18,7 +18,7 @@ joined_same : (gs : List (List Line)) → run.joined gs ≡ joined gs
 joined_same [] = refl
 joined_same (g ∷ gs) = ap (λ (ls : List Line). g ++ ls) (joined_same gs)
 
-step_same : (n : ℕ) (e : Step) → run.IsStep n e → IsStep n e
+pub step_same : (n : ℕ) (e : Step) → run.IsStep n e → IsStep n e
 step_same n (step.Turn m) h = h
 step_same n (step.Tick m) h = h
 step_same n (step.Deliver a b k) h = h
@@ -107,10 +107,6 @@ pub verdict_is : (b : Boot) (bytes : List ℕ) (v : Verdict) → IsValid b → C
 unfolding verdict
 verdict_is b bytes v valid h = h (by_rule b) (rule_says b valid)
 
-pub refusal_is : (b : Boot) (bytes : List ℕ) (x : CheckError) → IsValid b → RefusedBy b bytes x → RefusedSo (verdict b bytes) x
-unfolding verdict
-refusal_is b bytes x valid h = h (by_rule b) (rule_says b valid)
-
 -- and what the machines print is a trace by the rule
 pub trace_is : (b : Boot) (bytes : List ℕ) (n : ℕ) (ended : Bool) → IsValid b → IsPrinted b bytes n ended → IsTrace b bytes n ended
 trace_is b bytes n ended valid p =
@@ -127,5 +123,5 @@ trace_is b bytes n ended valid p =
       counts = p.counts;
       fits = subst (All LineFits) same p.fits;
       ends_fit = subst (EndsFit ended) ends p.ends_fit;
-      text = p.text ∙ ap (λ ls. text_of_lines ls ++ text_behind ended (ends_of (length b.machines) p.world)) same ∙ ap (λ (es : List EndLine). text_of_lines (joined p.groups) ++ text_behind ended es) ends;
+      text = p.text ∙ ap (λ ls. text_of_lines ls ++ text_behind ended (ends_of b p.world)) same ∙ ap (λ (es : List EndLine). text_of_lines (joined p.groups) ++ text_behind ended es) ends;
     }

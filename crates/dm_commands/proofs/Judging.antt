@@ -12,20 +12,6 @@ use Rattle.dm_commands.specs.Judges.{IsUntold, JudgeMeets, JudgeTells, NoneJudge
 use Rattle.dm_commands.specs.Meets.{MeetsShelf, MeetsSink}
 use Rattle.dm_commands.specs.Outside.{Around}
 
--- what is said of a trace is said with its boot file
-pub judge_tells : (m : TraceMeans) (files : Option (List ℕ → Option (List ℕ))) (boot trace : List ℕ) (due : Status) (text : List ℕ) → TellsJudged m files boot trace due text → JudgeTells m files boot trace due text
-judge_tells m files boot trace (BootRefused number place) text h = absurd h.tells
-judge_tells m files boot trace Done text h = h
-judge_tells m files boot trace Usage text h = h
-judge_tells m files boot trace (ReadFault i) text h = h
-judge_tells m files boot trace (NoMemory lack) text h = h
-judge_tells m files boot trace WriteFault text h = h
-judge_tells m files boot trace (ScheduleRefused line why) text h = h
-judge_tells m files boot trace (TooLong i) text h = h
-judge_tells m files boot trace (Worn from to) text h = h
-judge_tells m files boot trace (TraceRefused line why) text h = h
-judge_tells m files boot trace (LabelsRefused line) text h = h
-
 -- a status that is due blames no read and no write
 pub due_unwritten : (m : TraceMeans) (files : Option (List ℕ → Option (List ℕ))) (boot trace text : List ℕ) (s : Status) → JudgeTells m files boot trace s text → s ≡ WriteFault → ⊥
 due_unwritten m files boot trace text s h e = let k : JudgeTells m files boot trace WriteFault text = subst (λ (x : Status). JudgeTells m files boot trace x text) e h in k.tells
@@ -83,26 +69,6 @@ no_boot_judged files boot trace old new (ScheduleRefused line why) silent h = ab
 no_boot_judged files boot trace old new (Worn from to) silent h = absurd h
 no_boot_judged files boot trace old new (TraceRefused line why) silent h = absurd h
 no_boot_judged files boot trace old new (LabelsRefused line) silent h = absurd h
-
--- a system, and a trace that gives nothing
-pub no_bytes_judged : (files : Option (List ℕ → Option (List ℕ))) (boot trace : List ℕ) (b : Boot) (old new : ℕ) (s : Status) → SaysBoot files boot b → NoBytes files trace old new s → NoneJudged files boot trace old new s
-no_bytes_judged files boot trace b old new (ReadFault input.Trace) says h = record { why = record { b = b; says = says; holds = h }; silent = tt }
-no_bytes_judged files boot trace b old new (ReadFault input.Boot) says h = absurd h
-no_bytes_judged files boot trace b old new (ReadFault input.Schedule) says h = absurd h
-no_bytes_judged files boot trace b old new (ReadFault input.Labels) says h = absurd h
-no_bytes_judged files boot trace b old new (NoMemory lack) says h = record { why = tt; silent = tt }
-no_bytes_judged files boot trace b old new (TooLong input.Trace) says h = record { why = record { b = b; says = says; holds = h }; silent = tt }
-no_bytes_judged files boot trace b old new (TooLong input.Boot) says h = absurd h
-no_bytes_judged files boot trace b old new (TooLong input.Schedule) says h = absurd h
-no_bytes_judged files boot trace b old new (TooLong input.Labels) says h = absurd h
-no_bytes_judged files boot trace b old new Done says h = absurd h
-no_bytes_judged files boot trace b old new Usage says h = absurd h
-no_bytes_judged files boot trace b old new WriteFault says h = absurd h
-no_bytes_judged files boot trace b old new (BootRefused number place) says h = absurd h
-no_bytes_judged files boot trace b old new (ScheduleRefused line why) says h = absurd h
-no_bytes_judged files boot trace b old new (Worn from to) says h = absurd h
-no_bytes_judged files boot trace b old new (TraceRefused line why) says h = absurd h
-no_bytes_judged files boot trace b old new (LabelsRefused line) says h = absurd h
 
 -- no reason is that a word was refused
 pub judge_taken : {F K : Type 0} (m : TraceMeans) (boot trace : List ℕ) (a : Around F K) (world : Option World) (s : Status) → JudgeMeets m boot trace a world s → s ≡ Usage → ⊥

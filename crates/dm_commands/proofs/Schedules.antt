@@ -7,6 +7,7 @@ use Rattle.dm_schedule.specs.declared.Step.{Step}
 use Rattle.dm_schedule.specs.declared.Step.TheVariants as step
 use Rattle.dm_schedule.specs.declared.Directive.TheVariants as directive
 use Rattle.dm_schedule.specs.Schedule.{directives_of}
+use Rattle.dm_words.proofs.CommandWords.{left_true}
 
 -- a process that is to move is at home on one of so many machines
 abbrev pub IsHome : ℕ → Step → Type 0
@@ -90,10 +91,6 @@ in_range n e = both (nat_le 1 n) (nat_le n 65536) refl refl e
     both true false f g e = cc
     both false b f g e = cc
 
-left_of : (a b : Bool) → (a && b) ≡ true → a ≡ true
-left_of true b e = refl
-left_of false b e = cc
-
 is_apart : (a c : ℕ) → (a == c) ≡ false → a ≢ c
 is_apart a c e = grind (arith, nat_tests)
 
@@ -105,8 +102,8 @@ made_has : (machines : ℕ) (k : Keyword) (v : Values (operands k)) → ValuesFi
 made_has machines Turn v h = (is_below v.0 machines h.0, tt)
 made_has machines Tick v h = (is_below v.0 machines h.0, tt)
 made_has machines Deliver v h = deliver_has machines v.0 v.1.0 v.1.1.0 (v.0 == v.1.0) refl (is_below v.0 machines h.0) (is_below v.1.0 machines h.1.0)
-made_has machines Migrate v h = (is_below v.1.0 machines h.1.0, is_below v.0.home machines (left_of (nat_lt v.0.home machines) (nat_le v.0.num 4294967295) h.0))
-made_has machines CallOff v h = (is_below v.1.0 machines h.1.0, is_below v.0.home machines (left_of (nat_lt v.0.home machines) (nat_le v.0.num 4294967295) h.0))
+made_has machines Migrate v h = (is_below v.1.0 machines h.1.0, is_below v.0.home machines (left_true (nat_lt v.0.home machines) (nat_le v.0.num 4294967295) h.0))
+made_has machines CallOff v h = (is_below v.1.0 machines h.1.0, is_below v.0.home machines (left_true (nat_lt v.0.home machines) (nat_le v.0.num 4294967295) h.0))
 made_has machines Round v h = (tt, tt)
 made_has machines Spin v h = (in_range v.0 h.0, tt)
 made_has machines Settle v h = (tt, tt)

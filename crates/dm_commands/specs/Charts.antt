@@ -17,7 +17,7 @@ use Rattle.dm_ending.specs.declared.status.Status.TheVariants.{Done, NoMemory, W
 use Rattle.dm_commands.specs.Outside.{Around}
 use Rattle.dm_commands.specs.Runs.{RunMeets, RunSaying}
 
--- the picture of all of the run was appended
+-- the picture of the whole run was appended, of what fits a picture
 pub record ShowsWhole (r : Notion) (b : Boot) (ds : List Directive) (before after : Option (List ℕ)) : Type 0 where
   pub text : List ℕ
   pub is : PictureIsWhole r b ds text

@@ -66,7 +66,7 @@ counted_as (line.Stale id) = None
 counted_as (line.Proto id) = None
 counted_as (line.NoChild p) = None
 counted_as (line.NoCall p) = None
-counted_as (line.Pinned p) = None
+counted_as line.Away = None
 
 -- one more of these
 abbrev pub one_more : Option Counted → Totals → Totals

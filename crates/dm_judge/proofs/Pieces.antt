@@ -11,15 +11,6 @@ map-copied f done xs i d within =
 
 pub ruleset map_lemmas = (map-end)
 
--- pieces behind the first
-pub behind_first : {X : Type 0} (ps qs : List X) (p : X) (left : ℕ) → ps ≡ p ∷ qs → 0 < left → drop left ps ≡ drop (left - 1) qs
-behind_first ps qs p zero is some = absurd (omega (arith, some))
-behind_first ps qs p (suc n) is some = let same : n ≡ suc n - 1 = omega arith in ap (λ xs. drop (suc n) xs) is ∙ ap (λ k. drop k qs) same
-
--- behind the last there is none
-pub behind_last : {X : Type 0} (ps : List X) (p : X) (left : ℕ) → ps ≡ p ∷ [] → 0 < left → drop left ps ≡ []
-behind_last ps p left is some = ap (λ xs. drop left xs) is ∙ drop_of_length-le (p ∷ []) (omega (arith, some))
-
 -- nothing is left of a text
 pub told_empty : (t : List ℕ) → (length t == 0) ≡ true → standing_told (pieces 10 t) ≡ codes "the text ends"
 unfolding pieces

@@ -28,10 +28,10 @@ good_bad n m e = absurd (cc)
 some_is : {A : Type 0} (x y : A) → Some x ≡ Some y → x ≡ y
 some_is x y e = cc
 
-good_is : (n m : ℕ) → Good n ≡ Good m → n ≡ m
+pub good_is : (n m : ℕ) → Good n ≡ Good m → n ≡ m
 good_is n m e = cc
 
-line_is : (n m : ℕ) → Refused n ≡ Refused m → n ≡ m
+pub line_is : (n m : ℕ) → Refused n ≡ Refused m → n ≡ m
 line_is n m e = cc
 
 -- what a line comes to, by whether it says nothing, and by the label that it says

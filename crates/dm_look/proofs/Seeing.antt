@@ -9,7 +9,7 @@ use Rattle.dm_look.specs.Looked.{IsSeen, TellsLetters, held_by_world}
 
 -- the text of a group, of where everything stands, and of what is in the messages
 pub seen : (b : Boot) (ds : List Directive) (most : ℕ) (lines : List Line) (w : World) (text : List ℕ) → (h : IsThere b ds most lines w)
-    → TellsLetters (waiting (length w.boot.machines) (world_state w)) (text_of_lines lines ++ text_of_ends (end_lines (length w.boot.machines) (world_state w))) text → IsSeen by_world held_by_world b ds most text
+    → TellsLetters (waiting (length w.boot.machines) (world_state w)) (text_of_lines lines ++ text_of_ends (end_lines w.boot (world_state w))) text → IsSeen by_world held_by_world b ds most text
 seen b ds most lines w text h told =
     let come = h.come in
     record {
@@ -23,6 +23,6 @@ seen b ds most lines w text h told =
       letters = told.letters;
       holds = subst (λ (x : Boot). AreLetters (waiting (length x.machines) (world_state w)) told.letters) h.boot told.are;
       text_is = told.told
-          ∙ ap (λ (ls : List Line). text_of_lines ls ++ text_of_ends (end_lines (length w.boot.machines) (world_state w)) ++ text_of_letters told.letters) come.kept.lines_are
-          ∙ ap (λ (x : Boot). text_of_lines (last_group come.groups) ++ text_of_ends (end_lines (length x.machines) (world_state w)) ++ text_of_letters told.letters) h.boot;
+          ∙ ap (λ (ls : List Line). text_of_lines ls ++ text_of_ends (end_lines w.boot (world_state w)) ++ text_of_letters told.letters) come.kept.lines_are
+          ∙ ap (λ (x : Boot). text_of_lines (last_group come.groups) ++ text_of_ends (end_lines x (world_state w)) ++ text_of_letters told.letters) h.boot;
     }

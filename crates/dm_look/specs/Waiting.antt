@@ -5,27 +5,32 @@ use Rattle.std.specs.declared.option.Option.TheVariants.{None, Some}
 use Rattle.dm_link.specs.Names.{pid_of}
 use Rattle.dm_message.specs.declared.Message.{Message}
 use Rattle.dm_records.specs.declared.record.Record.TheVariants.{Here, Frozen, Incoming, Forward}
-use Rattle.dm_onekernel.specs.Boot.{first_number}
+use Rattle.dm_onekernel.specs.Boot.{first_number, manager, switchboard}
 use Rattle.dm_line.specs.Each.{joined_below}
 use Rattle.dm_kernel.specs.State.{KernelKnown}
+use Rattle.dm_resident.specs.Residents.{queue_of}
 use Rattle.dm_world.specs.Ends.{untaken}
 use Rattle.dm_world.specs.World.{WorldState}
 use Rattle.dm_look.specs.Letters.{Letter, id_cmp, letter_of}
 
--- what a machine has for a process: its queue, and what is held back until it has moved
+-- what a machine has for a process or a server: what waits for it, and what is held back until it has moved
 abbrev pub kept_for : Option KernelKnown → List Message
 kept_for None = []
-kept_for (Some (Here x)) = x.queue
-kept_for (Some (Frozen leaving)) = leaving.process.queue ++ leaving.held
+kept_for (Some (Here r)) = queue_of r
+kept_for (Some (Frozen leaving)) = queue_of leaving.resident ++ leaving.held
 kept_for (Some (Incoming arriving)) = arriving.held
 kept_for (Some (Forward machine moves)) = []
 
--- and for each process that a machine made
+-- for the servers
+abbrev pub kept_of_servers : WorldState → ℕ → List Message
+kept_of_servers w m = kept_for ((w.nodes m).kernel.records switchboard) ++ kept_for ((w.nodes m).kernel.records manager)
+
+-- for each process that a machine made
 abbrev pub kept_of_home : WorldState → ℕ → ℕ → List Message
 kept_of_home w m home = joined_below (λ n. kept_for ((w.nodes m).kernel.records (pid_of home (first_number + n)))) (w.nodes home).kernel.made
 
 abbrev pub kept_at : ℕ → WorldState → ℕ → List Message
-kept_at machines w m = joined_below (λ home. kept_of_home w m home) machines
+kept_at machines w m = kept_of_servers w m ++ joined_below (λ home. kept_of_home w m home) machines
 
 -- what a machine gave to a stream, and was not taken yet
 abbrev pub given_on : WorldState → ℕ → ℕ → List Message
@@ -37,7 +42,7 @@ given_by machines w a = joined_below (λ c. given_on w a c) machines
 abbrev pub waiting_at : ℕ → WorldState → ℕ → List Message
 waiting_at machines w m = kept_at machines w m ++ (w.nodes m).kernel.inbox ++ given_by machines w m
 
--- all messages that wait: for processes, in inboxes, between machines
+-- all messages that wait: for processes and servers, in inboxes, between machines
 unfoldable pub waiting : ℕ → WorldState → List Message
 waiting machines w = joined_below (λ m. waiting_at machines w m) machines
 

@@ -52,7 +52,7 @@ fn tell(alloc: Global, last: &[Line], world: &World) -> Result<Vec<u8>, NoMemory
     requires law { RunsGo }
     requires running { IsRunning world.now }
     ensures { IfOk result (λ t. TellsLetters (waiting (length world.now.boot.machines) (world_state world.now))
-        (text_of_lines last.now ++ text_of_ends (ends_of (length world.now.boot.machines) (world_state world.now))) t.items) }
+        (text_of_lines last.now ++ text_of_ends (ends_of world.now.boot (world_state world.now))) t.items) }
 {
     let ends = end_lines(world)?;
     let mut text = Vec::new(alloc);

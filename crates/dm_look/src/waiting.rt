@@ -1,23 +1,25 @@
 //! The messages that wait somewhere.
 ghost use Rattle.std.specs.Prelude.{◌≡◌, ◌<◌, ◌-◌, ◌++◌, IfOk, OnOk, drop, length, map};
 ghost use Rattle.dm_records.specs.Records.{at};
+ghost use Rattle.dm_resident.specs.Residents.{queue_of};
 ghost use Rattle.dm_node.specs.Meets as node;
 ghost use Rattle.dm_node.specs.Meets.{HasStreams};
 ghost use Rattle.dm_world.specs.Ends.{MayEnd};
 ghost use Rattle.dm_world.specs.Meets.{IsWorld, world_state};
-ghost use Rattle.dm_look.specs.Waiting.{given_by, given_on, kept_at, kept_for, kept_of_home, waiting, waiting_at};
+ghost use Rattle.dm_look.specs.Waiting.{given_by, given_on, kept_at, kept_for, kept_of_home, kept_of_servers, waiting, waiting_at};
 
-use dm_link::{FIRST_NUMBER, MACHINES, Pid};
+use dm_link::{FIRST_NUMBER, MACHINES, MANAGER, Pid, SWITCHBOARD};
 use dm_lists::Queue;
 use dm_memory::{NoMemory, Parcel, push};
 use dm_message::Message;
 use dm_node::Node;
 use dm_records::Record;
+use dm_resident::Resident;
 use dm_stream::Sender;
 use dm_world::World;
 use std::alloc::Global;
 
-/// The messages that wait: in queues and held back for processes, in inboxes, and given to streams and not taken.
+/// The messages that wait: in queues, held back for processes and servers, in inboxes, and given to streams and not taken.
 pub fn find_waiting(alloc: Global, world: &World) -> Result<Vec<&Message>, NoMemory>
     requires world { IsWorld world.now }
     requires may { MayEnd (length world.now.boot.machines) (world_state world.now) }
@@ -44,7 +46,7 @@ fn find_at<'a>(world: &'a World, m: u8, found: &mut Vec<&'a Message>) -> Result<
     Ok(())
 }
 
-/// What a machine has for processes, by the process's home and number.
+/// What a machine has for the servers, and for processes, by the process's home and number.
 fn find_kept<'a>(world: &'a World, m: u8, found: &mut Vec<&'a Message>) -> Result<(), NoMemory>
     requires world { IsWorld world.now }
     requires may { MayEnd (length world.now.boot.machines) (world_state world.now) }
@@ -52,9 +54,25 @@ fn find_kept<'a>(world: &'a World, m: u8, found: &mut Vec<&'a Message>) -> Resul
     ensures { OnOk result (map (λ x. x.now) found.new.items ≡ map (λ x. x.now) found.old.items ++
         kept_at (length world.now.boot.machines) (world_state world.now) m) }
 {
+    find_of_servers(world, m, found)?;
     for home in 0..world.machines() {
         find_of_home(world, m, home, found)?;
     }
+    Ok(())
+}
+
+/// What a machine has for the servers.
+fn find_of_servers<'a>(
+    world: &'a World,
+    m: u8,
+    found: &mut Vec<&'a Message>,
+) -> Result<(), NoMemory>
+    requires world { IsWorld world.now }
+    requires within { m < length world.now.boot.machines }
+    ensures { OnOk result (map (λ x. x.now) found.new.items ≡ map (λ x. x.now) found.old.items ++ kept_of_servers (world_state world.now) m) }
+{
+    find_for(world.machine(m), SWITCHBOARD, found)?;
+    find_for(world.machine(m), MANAGER, found)?;
     Ok(())
 }
 
@@ -114,18 +132,31 @@ fn find_on<'a>(
     find_untaken(world.machine(from), world.machine(to), from, to, found)
 }
 
-/// What a machine has for a process.
+/// What a machine has for a process or a server.
 fn find_for<'a>(node: &'a Node, pid: Pid, found: &mut Vec<&'a Message>) -> Result<(), NoMemory>
     ensures { OnOk result (map (λ x. x.now) found.new.items ≡ map (λ x. x.now) found.old.items ++ kept_for (at node.now.kernel.records pid)) }
 {
     match node.kernel().records().get(pid) {
-        Some(Record::Here(process)) => find_in_queue(process.queue.messages(), found),
+        Some(Record::Here(resident)) => find_with(resident, found),
         Some(Record::Frozen(leaving)) => {
-            find_in_queue(leaving.process().queue.messages(), found)?;
+            find_with(leaving.resident(), found)?;
             find_in_held(leaving.held(), found)
         }
         Some(Record::Incoming(arriving)) => find_in_held(arriving.held(), found),
         _ => Ok(()),
+    }
+}
+
+/// The messages that wait for a process; a server has no queue.
+fn find_with<'a>(resident: &'a Resident, found: &mut Vec<&'a Message>) -> Result<(), NoMemory>
+    ensures { OnOk result (map (λ x. x.now) found.new.items ≡ map (λ x. x.now) found.old.items ++ queue_of resident.now) }
+{
+    match resident.process() {
+        Some(process) => {
+            find_in_queue(process.queue.messages(), found)?;
+            Ok(())
+        }
+        None => Ok(()),
     }
 }
 

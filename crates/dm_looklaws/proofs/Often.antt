@@ -1,10 +1,12 @@
 -- How often a name stands in lists that are joined.
-use Rattle.std.proofs.Common.{◌≡◌, ◌≢◌, ℕ, zero, suc, ◌<◌, ◌≤◌, List, ◌++◌, refl, sym, subst, inl, inr, arith}
+use Rattle.std.proofs.Common.{◌≡◌, ◌≢◌, ℕ, zero, suc, ◌<◌, ◌≤◌, List, refl, sym, subst, inl, inr, arith}
 use Rattle.dm_line.specs.Each.{joined_below}
 use Rattle.dm_message.specs.declared.MsgId.{MsgId}
 use Rattle.dm_rule.specs.Spots.{times}
 use Rattle.dm_rule.proofs.Standing.{times-append}
 use Rattle.dm_line.proofs.Names.{eqb_tells}
+pub use Rattle.dm_movelaws.proofs.Ends.Sources.{both_first as some_left}
+pub use Rattle.dm_movelaws.proofs.Ends.Sources.{both_second as some_right}
 
 pub none_in : (i : MsgId) (f : ℕ → List MsgId) (n : ℕ) → ((k : ℕ) → k < n → times i (f k) ≡ 0) → times i (joined_below f n) ≡ 0
 none_in i f zero none = refl
@@ -44,9 +46,3 @@ some_in i f (suc n) k below least = elim (eqb_tells k n) [
       let before = some_in i f n k (omega (arith, below, apart)) least in
       omega (arith, both, before)
 ]
-
-pub some_left : (i : MsgId) (xs ys : List MsgId) → 1 ≤ times i xs → 1 ≤ times i (xs ++ ys)
-some_left i xs ys h = let both = times-append i xs ys in omega (arith, both, h)
-
-pub some_right : (i : MsgId) (xs ys : List MsgId) → 1 ≤ times i ys → 1 ≤ times i (xs ++ ys)
-some_right i xs ys h = let both = times-append i xs ys in omega (arith, both, h)

@@ -143,10 +143,6 @@ times_moved i ms ns moved =
 
 -- ---- their letters
 
-letter_ids : Option PlainWhat → Message → List MsgId → List MsgId
-letter_ids None m is = is
-letter_ids (Some w) m is = m.id ∷ is
-
 one_id : (m : Message) (o : Option PlainWhat) (rest : List Letter) (Above : MsgId → Type 0) → Above m.id → AllByRecursion Above (map (λ (x : Letter). x.id) rest)
     → AllByRecursion Above (map (λ (x : Letter). x.id) (cons_option (option_map (λ (w : PlainWhat). record { id = m.id; receiver = m.to.pid; what = w; links = links_in m.what }) o) rest))
 one_id m None rest Above first h = h

@@ -1,6 +1,6 @@
 -- The names that stand in the lists of a point, machine by machine: each once, and each message that the kernel holds among them.
 use Rattle.std.proofs.Common.{◌≡◌, ◌≢◌, ℕ, ◌+◌, ◌-◌, ◌==◌, ◌<◌, ◌≤◌, Bool, true, false, if◌then◌else◌, List, [], ◌∷◌, ◌++◌, length, refl, sym, subst, ap, ◌∙◌, inl, inr, arith}
-use Rattle.std.specs.Prelude.{is_some, drop}
+use Rattle.std.specs.Prelude.{is_some, drop, ◌||◌}
 use Rattle.std.specs.declared.option.Option.{Option}
 use Rattle.std.specs.declared.option.Option.TheVariants.{None, Some}
 use Rattle.dm_link.specs.declared.Pid.{Pid}
@@ -8,7 +8,7 @@ use Rattle.dm_link.specs.Names.{pid_eq, pid_of}
 use Rattle.dm_message.specs.declared.MsgId.{MsgId}
 use Rattle.dm_message.specs.Plain.{PlainMessage}
 use Rattle.dm_onekernel.specs.declared.boot.Boot.{Boot}
-use Rattle.dm_onekernel.specs.Boot.{IsValid, first_number}
+use Rattle.dm_onekernel.specs.Boot.{IsValid, first_number, manager, switchboard}
 use Rattle.dm_onekernel.specs.Kernel.{Life}
 use Rattle.dm_schedule.specs.declared.Step.{Step}
 use Rattle.dm_line.specs.Each.{joined_below}
@@ -34,15 +34,21 @@ use Rattle.dm_mirror.proofs.Names.{drop_all}
 use Rattle.dm_mirror.proofs.Machines.{made_always}
 use Rattle.dm_looklaws.proofs.Often.{none_in, once_in, some_in, some_left, some_right}
 
--- what waits for a process at a machine
+-- what waits for a process or a server at a machine
 abbrev pub ids_kept : View → ℕ → Pid → List MsgId
 ids_kept v m p = v.queue m p ++ v.held m p
 
 abbrev pub ids_of_home : Point → ℕ → ℕ → List MsgId
 ids_of_home pt m home = joined_below (λ n. ids_kept pt.view m (pid_of home (first_number + n))) (pt.kernel.made home)
 
+abbrev pub ids_of_servers : Point → ℕ → List MsgId
+ids_of_servers pt m = ids_kept pt.view m switchboard ++ ids_kept pt.view m manager
+
+abbrev pub ids_of_homes : Point → ℕ → List MsgId
+ids_of_homes pt m = joined_below (λ home. ids_of_home pt m home) pt.kernel.machines
+
 abbrev pub ids_kept_at : Point → ℕ → List MsgId
-ids_kept_at pt m = joined_below (λ home. ids_of_home pt m home) pt.kernel.machines
+ids_kept_at pt m = ids_of_servers pt m ++ ids_of_homes pt m
 
 -- what it routed to another, and was not taken
 abbrev pub ids_given : View → ℕ → ℕ → List MsgId
@@ -87,6 +93,18 @@ at_machine pt i m =
     let second = times-append i (ids_kept_at pt m) (pt.view.inbox m) in
     omega (arith, first, second)
 
+-- for the servers, and for the processes
+kept_at_sum : (pt : Point) (i : MsgId) (m : ℕ) → times i (ids_kept_at pt m) ≡ times i (ids_kept pt.view m switchboard) + times i (ids_kept pt.view m manager) + times i (ids_of_homes pt m)
+kept_at_sum pt i m =
+    let all = times-append i (ids_of_servers pt m) (ids_of_homes pt m) in
+    let both = times-append i (ids_kept pt.view m switchboard) (ids_kept pt.view m manager) in
+    omega (arith, all, both)
+
+homes_none : (pt : Point) (i : MsgId) (m : ℕ) → ((home n : ℕ) → times i (ids_kept pt.view m (pid_of home (first_number + n))) ≡ 0) → times i (ids_of_homes pt m) ≡ 0
+homes_none pt i m none =
+    none_in i (λ home. ids_of_home pt m home) pt.kernel.machines
+    (λ home h. none_in i (λ n. ids_kept pt.view m (pid_of home (first_number + n))) (pt.kernel.made home) (λ n k. none home n))
+
 -- the message stands at one spot
 module _ (pt : Point) (i : MsgId) (z : Spot) (one : standing pt.view i z ≡ 1) (others : (other : Spot) → other ≢ z → standing pt.view i other ≡ 0) where
   kept_none : (m : ℕ) (p : Pid) → Queue m p ≢ z → Held m p ≢ z → times i (ids_kept pt.view m p) ≡ 0
@@ -98,8 +116,11 @@ module _ (pt : Point) (i : MsgId) (z : Spot) (one : standing pt.view i z ≡ 1) 
 
   kept_at_none : (m : ℕ) → ((p : Pid) → Queue m p ≢ z) → ((p : Pid) → Held m p ≢ z) → times i (ids_kept_at pt m) ≡ 0
   kept_at_none m queue held =
-      none_in i (λ home. ids_of_home pt m home) pt.kernel.machines
-      (λ home h. none_in i (λ n. ids_kept pt.view m (pid_of home (first_number + n))) (pt.kernel.made home) (λ n k. kept_none m (pid_of home (first_number + n)) (queue (pid_of home (first_number + n))) (held (pid_of home (first_number + n)))))
+      let board = kept_none m switchboard (queue switchboard) (held switchboard) in
+      let theirs = kept_none m manager (queue manager) (held manager) in
+      let homes = homes_none pt i m (λ home n. kept_none m (pid_of home (first_number + n)) (queue (pid_of home (first_number + n))) (held (pid_of home (first_number + n)))) in
+      let sum = kept_at_sum pt i m in
+      omega (arith, board, theirs, homes, sum)
 
   given_by : (a c : ℕ) (b : Bool) → times i (untaken (pt.view.pair a c)) ≡ 0 → times i (if b then [] else untaken (pt.view.pair a c)) ≡ 0
   given_by a c true none = refl
@@ -125,8 +146,8 @@ given_once : (b : Bool) (i : MsgId) (xs : List MsgId) → times i xs ≡ 1 → t
 given_once true i xs one = omega arith
 given_once false i xs one = omega (arith, one)
 
-kept_once : (pt : Point) (i : MsgId) (m : ℕ) (p : Pid) → ((q : Pid) → q ≢ p → times i (ids_kept pt.view m q) ≡ 0) → times i (ids_kept pt.view m p) ≤ 1 → times i (ids_kept_at pt m) ≤ 1
-kept_once pt i m p others one =
+homes_once : (pt : Point) (i : MsgId) (m : ℕ) (p : Pid) → ((q : Pid) → q ≢ p → times i (ids_kept pt.view m q) ≡ 0) → times i (ids_kept pt.view m p) ≤ 1 → times i (ids_of_homes pt m) ≤ 1
+homes_once pt i m p others one =
     once_in i (λ home. ids_of_home pt m home) pt.kernel.machines p.home
     (λ home apart. none_in i (λ n. ids_kept pt.view m (pid_of home (first_number + n))) (pt.kernel.made home)
     (λ n h. others (pid_of home (first_number + n)) (λ e. apart (ap (λ (q : Pid). q.home) e))))
@@ -138,6 +159,42 @@ kept_once pt i m p others one =
     one_of q = elim (cases_Bool (pid_eq q p)) [
       | inl same ↦ subst (λ (r : Pid). times i (ids_kept pt.view m r) ≤ 1) (sym (pid_eq-is q p same)) one
       | inr off ↦ let none = others q (λ e. false≢true (sym off ∙ (ap (λ (r : Pid). pid_eq r p) e ∙ pid_eq-same p))) in omega (arith, none)
+    ]
+
+-- no process has a server's name
+made_apart : (home n : ℕ) (p : Pid) → p.num ≤ 2 → pid_of home (first_number + n) ≢ p
+made_apart home n p few e = let num : first_number + n ≡ p.num = ap (λ (q : Pid). q.num) e in omega (arith, num, few)
+
+servers_apart : manager ≢ switchboard
+servers_apart e = let num : 2 ≡ 1 = ap (λ (q : Pid). q.num) e in omega (arith, num)
+
+-- for a server, or for a process
+kept_once : (pt : Point) (i : MsgId) (m : ℕ) (p : Pid) → ((q : Pid) → q ≢ p → times i (ids_kept pt.view m q) ≡ 0) → times i (ids_kept pt.view m p) ≤ 1 → times i (ids_kept_at pt m) ≤ 1
+kept_once pt i m p others one =
+    elim (cases_Bool (pid_eq switchboard p)) [
+      | inl same ↦
+          let is = pid_eq-is switchboard p same in
+          let board : times i (ids_kept pt.view m switchboard) ≤ 1 = subst (λ (q : Pid). times i (ids_kept pt.view m q) ≤ 1) (sym is) one in
+          let theirs = others manager (λ e. servers_apart (e ∙ sym is)) in
+          let homes = homes_none pt i m (λ home n. others (pid_of home (first_number + n)) (λ e. made_apart home n switchboard (omega arith) (e ∙ sym is))) in
+          let sum = kept_at_sum pt i m in
+          omega (arith, board, theirs, homes, sum)
+      | inr off ↦ not_board (others switchboard (λ e. false≢true (sym off ∙ (ap (λ (r : Pid). pid_eq r p) e ∙ pid_eq-same p))))
+    ]
+  where
+    not_board : times i (ids_kept pt.view m switchboard) ≡ 0 → times i (ids_kept_at pt m) ≤ 1
+    not_board board = elim (cases_Bool (pid_eq manager p)) [
+      | inl same ↦
+          let is = pid_eq-is manager p same in
+          let theirs : times i (ids_kept pt.view m manager) ≤ 1 = subst (λ (q : Pid). times i (ids_kept pt.view m q) ≤ 1) (sym is) one in
+          let homes = homes_none pt i m (λ home n. others (pid_of home (first_number + n)) (λ e. made_apart home n manager (omega arith) (e ∙ sym is))) in
+          let sum = kept_at_sum pt i m in
+          omega (arith, board, theirs, homes, sum)
+      | inr off ↦
+          let theirs = others manager (λ e. false≢true (sym off ∙ (ap (λ (r : Pid). pid_eq r p) e ∙ pid_eq-same p))) in
+          let homes = homes_once pt i m p others one in
+          let sum = kept_at_sum pt i m in
+          omega (arith, board, theirs, homes, sum)
     ]
 
 once_at : (pt : Point) (i : MsgId) (z : Spot) → standing pt.view i z ≡ 1 → ((other : Spot) → other ≢ z → standing pt.view i other ≡ 0) → times i (ids_at_machine pt (place z)) ≤ 1
@@ -186,7 +243,11 @@ nowhere pt i none =
     omega (arith, both, queue, held) in
     let all : times i (all_ids pt) ≡ 0 =
     none_in i (λ m. ids_at_machine pt m) pt.kernel.machines (λ m h.
-    let one = none_in i (λ home. ids_of_home pt m home) pt.kernel.machines (λ home k. none_in i (λ n. ids_kept pt.view m (pid_of home (first_number + n))) (pt.kernel.made home) (λ n less. kept m (pid_of home (first_number + n)))) in
+    let homes = homes_none pt i m (λ home n. kept m (pid_of home (first_number + n))) in
+    let board = kept m switchboard in
+    let theirs = kept m manager in
+    let part = kept_at_sum pt i m in
+    let one : times i (ids_kept_at pt m) ≡ 0 = omega (arith, homes, board, theirs, part) in
     let two : times i (pt.view.inbox m) ≡ 0 = none (Inbox m) in
     let three = none_in i (λ c. ids_given pt.view m c) pt.kernel.machines (λ c k. by_test (m == c) (untaken (pt.view.pair m c)) (none (Untaken m c))) in
     let sum = at_machine pt i m in
@@ -232,10 +293,6 @@ held_some view.Unknown o h e = absurd (false≢true (sym h))
 held_some view.Here o h e = absurd (false≢true (sym h))
 held_some (view.Forward at_ moves) o h e = absurd (false≢true (sym h))
 
-server_holds : (b : Bool) → has_nothing_held (if b then view.Here else view.Unknown) ≡ true
-server_holds true = refl
-server_holds false = refl
-
 some_not_none : (i : MsgId) (xs : List MsgId) → 1 ≤ times i xs → xs ≡ [] → ⊥
 some_not_none i xs least e = let none : times i xs ≡ 0 = ap (times i) e in omega (arith, least, none)
 
@@ -246,10 +303,23 @@ in_home pt i m p made below some least =
     let under = made.below p some in
     let same : pid_of p.home (first_number + (p.num - first_number)) ≡ p = let e : first_number + (p.num - first_number) ≡ p.num = omega (arith, first) in ap (pid_of p.home) e in
     some_in i (λ k. ids_at_machine pt k) pt.kernel.machines m below
-    (some_left i (ids_kept_at pt m ++ pt.view.inbox m) (ids_given_by pt m) (some_left i (ids_kept_at pt m) (pt.view.inbox m)
+    (some_left i (ids_kept_at pt m ++ pt.view.inbox m) (ids_given_by pt m) (some_left i (ids_kept_at pt m) (pt.view.inbox m) (some_right i (ids_of_servers pt m) (ids_of_homes pt m)
     (some_in i (λ home. ids_of_home pt m home) pt.kernel.machines p.home (made.home p some)
     (some_in i (λ n. ids_kept pt.view m (pid_of p.home (first_number + n))) (pt.kernel.made p.home) (p.num - first_number) (omega (arith, first, under))
-    (subst (λ (q : Pid). 1 ≤ times i (ids_kept pt.view m q)) (sym same) least)))))
+    (subst (λ (q : Pid). 1 ≤ times i (ids_kept pt.view m q)) (sym same) least))))))
+
+-- a server
+in_servers : (pt : Point) (i : MsgId) (m : ℕ) (p : Pid) → m < pt.kernel.machines → is_server p ≡ true → 1 ≤ times i (ids_kept pt.view m p) → 1 ≤ times i (all_ids pt)
+in_servers pt i m p below server least =
+    some_in i (λ k. ids_at_machine pt k) pt.kernel.machines m below
+    (some_left i (ids_kept_at pt m ++ pt.view.inbox m) (ids_given_by pt m) (some_left i (ids_kept_at pt m) (pt.view.inbox m) (some_left i (ids_of_servers pt m) (ids_of_homes pt m)
+    (elim (cases_Bool (pid_eq p switchboard)) [
+      | inl same ↦
+          some_left i (ids_kept pt.view m switchboard) (ids_kept pt.view m manager) (subst (λ (q : Pid). 1 ≤ times i (ids_kept pt.view m q)) (pid_eq-is p switchboard same) least)
+      | inr off ↦
+          some_right i (ids_kept pt.view m switchboard) (ids_kept pt.view m manager)
+          (subst (λ (q : Pid). 1 ≤ times i (ids_kept pt.view m q)) (pid_eq-is p manager (sym (ap (λ (t : Bool). t || pid_eq p manager) off) ∙ server)) least)
+    ]))))
 
 stands_there : (b : Boot) (es : List Step) (pt : Point) (i : MsgId) (z : Spot) → IsValid b → Leads b (first_point b) es pt → 1 ≤ standing pt.view i z → 1 ≤ times i (all_ids pt)
 stands_there b es pt i (Queue m p) valid leads least =
@@ -267,9 +337,10 @@ stands_there b es pt i (Held m p) valid leads least =
     let stands : 1 ≤ times i (pt.view.held m p) = least in
     let none : pt.view.held m p ≡ [] → ⊥ = some_not_none i (pt.view.held m p) stands in
     let held : has_nothing_held (pt.view.known m p) ≡ false = not_both (has_nothing_held (pt.view.known m p)) (λ e. absurd (none (lists.stand.held m p e))) (λ e. e) in
-    let server : is_server p ≡ false = not_both (is_server p) (λ e. absurd (false≢true (sym held ∙ (ap has_nothing_held (run.based.known.server m p e) ∙ server_holds (m == 0))))) (λ e. e) in
-    in_home pt i m p (made_always b es pt valid leads) (within b pt i (Held m p) run least) (held_some (pt.view.known m p) (pt.kernel.processes p) held (run.based.known.agree m p server))
-    (some_right i (pt.view.queue m p) (pt.view.held m p) stands)
+    let below = within b pt i (Held m p) run least in
+    let there = some_right i (pt.view.queue m p) (pt.view.held m p) stands in
+    not_both (is_server p) (λ server. in_servers pt i m p below server there)
+    (λ server. in_home pt i m p (made_always b es pt valid leads) below (held_some (pt.view.known m p) (pt.kernel.processes p) held (run.based.known.agree m p server)) there)
 stands_there b es pt i (Inbox m) valid leads least =
     let run = (run_always b es pt valid leads).run in
     some_in i (λ k. ids_at_machine pt k) pt.kernel.machines m (within b pt i (Inbox m) run least)

@@ -8,12 +8,8 @@ use Rattle.dm_labels.specs.Judged.{judged}
 use Rattle.dm_labels.specs.declared.judge.Verdict.{Verdict}
 use Rattle.dm_labels.specs.declared.judge.Verdict.TheVariants.{Good, Refused}
 use Rattle.dm_program.specs.Decided.{GivesLabels, LabelsAreDecided}
-
-good_same : (n m : ℕ) → Good n ≡ Good m → n ≡ m
-good_same n m e = cc
-
-line_same : (n m : ℕ) → Refused n ≡ Refused m → n ≡ m
-line_same n m e = cc
+use Rattle.dm_labels.proofs.Exactly.{good_is}
+use Rattle.dm_labels.proofs.Exactly.{line_is}
 
 good_or_refused : (n line : ℕ) → Good n ≡ Refused line → ⊥
 good_or_refused n line e = cc
@@ -29,7 +25,7 @@ same_verdict boot labels told files b bytes v w is has e gives =
 accepts : (boot labels : List ℕ) (told : Option Files) (files : Files) (b : Boot) (bytes : List ℕ) (before after : Option (List ℕ)) (k k' : ℕ) (s : Status) (n : ℕ) → told ≡ Some files → HasLabels told boot labels b bytes → LabelsSay b bytes before after s
     → BlamesSink k k' s → GivesLabels files boot labels (Good n) → (RoseOrFull k k' → ⊥) → ((s ≡ Done) × (after ≡ appended before (good_labels_line n))) ⊎ IsWant s
 accepts boot labels told files b bytes before after k k' Done n is has says sink gives quiet =
-    let one : says.count ≡ n = good_same says.count n (same_verdict boot labels told files b bytes (Good says.count) (Good n) is has says.good gives) in
+    let one : says.count ≡ n = good_is says.count n (same_verdict boot labels told files b bytes (Good says.count) (Good n) is has says.good gives) in
     inl (refl, says.written ∙ ap (λ n. appended before (good_labels_line n)) one)
 accepts boot labels told files b bytes before after k k' (NoMemory lack) n is has says sink gives quiet = inr (lack, refl)
 accepts boot labels told files b bytes before after k k' WriteFault n is has says sink gives quiet = absurd (quiet sink)
@@ -49,7 +45,7 @@ finds boot labels told files b bytes before after Done line is has says gives = 
 finds boot labels told files b bytes before after (NoMemory lack) line is has says gives = inr (lack, refl)
 finds boot labels told files b bytes before after WriteFault line is has says gives = absurd (good_or_refused says.count line (same_verdict boot labels told files b bytes (Good says.count) (Refused line) is has says.good gives))
 finds boot labels told files b bytes before after (LabelsRefused l) line is has says gives =
-    inl (ap (λ (n : ℕ). LabelsRefused n) (line_same l line (same_verdict boot labels told files b bytes (Refused l) (Refused line) is has says.0 gives)))
+    inl (ap (λ (n : ℕ). LabelsRefused n) (line_is l line (same_verdict boot labels told files b bytes (Refused l) (Refused line) is has says.0 gives)))
 finds boot labels told files b bytes before after Usage line is has says gives = absurd says
 finds boot labels told files b bytes before after (ReadFault i) line is has says gives = absurd says
 finds boot labels told files b bytes before after (BootRefused number place) line is has says gives = absurd says

@@ -42,6 +42,7 @@ use Rattle.dm_program.proofs.DrillsChecked.{each_drawn, from_nothing}
 use Rattle.dm_program.proofs.Runs.Fits.{directives_fit}
 use Rattle.dm_program.specs.OwnLaws.{OwnDrillsAreFor, OwnDrillsCheck, SchedulesAreTaken}
 use Rattle.dm_program.specs.Printed.{by_rule}
+use Rattle.dm_kernel.proofs.LawfulStart.{few_machines}
 
 -- a process is at home on one of so many machines, and its number is one that a schedule can have
 abbrev IsNamed : ℕ → Pid → Type 0
@@ -130,9 +131,6 @@ all_stand : (b : Boot) (d : OwnDrill) → IsValid b → All (CanStand (length b.
 all_stand b d valid =
     let n = length b.machines in
     each_drawn (CanStand n) (own_drawn n b.processes) d.seed d.lines (λ x. stands n (own_drawn n b.processes x).directive (own_fits n b.processes x (some_machines n valid.some_machines)) (own_further n b.processes x (named b valid)))
-
-few_machines : (n : ℕ) → nat_le n 16 ≡ true → n ≤ 16
-few_machines n e = grind (arith, nat_tests)
 
 read_as : (b : Boot) (d : OwnDrill) → IsValid b → directives_of (schedule_text (directives_for b d)) (length b.machines) ≡ Accepted (directives_for b d)
 read_as b d valid = schedules_are_read.read (length b.machines) (directives_for b d) (few_machines (length b.machines) valid.few_machines) (all_stand b d valid)

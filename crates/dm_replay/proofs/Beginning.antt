@@ -179,7 +179,3 @@ none_begun b k state sound of labels =
       of = of;
       labels = labels;
     }
-
--- all have at its front
-pub all_begun : (b : Boot) (k : Kernel) → HasBegun b 0 k → one_kernel b k ≡ start b
-all_begun b k h = h.state

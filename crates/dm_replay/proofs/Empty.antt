@@ -102,7 +102,7 @@ pub record IsEmpty (b : Boot) (k : Kernel) : Type 0 where
   pub bag : (i : MsgId) → held k.bag i ≡ None
   pub notes : k.notes.entries ≡ []
   pub noted : (i : MsgId) → held k.noted i ≡ None
-  pub board : k.board ≡ record { names = []; sent = 0 }
+  pub board : k.board ≡ record { names = []; sent = 0; moves = 0 }
   pub manager : k.manager ≡ starting b
 
 pub state_empty : (b : Boot) (k : Kernel) → IsEmpty b k → one_kernel b k ≡ started b []
@@ -134,7 +134,3 @@ sound_empty b k valid lawful h =
       manager_sent = omega (arith, none);
       children = omega (arith, few, children);
     }
-
--- and it is of that boot file
-pub of_empty : (b : Boot) (k : Kernel) → IsEmpty b k → IsOf b k
-of_empty b k h = record { machines = ap (λ (g : Managing). g.machines) h.manager; images = ap (λ (g : Managing). g.images) h.manager }

@@ -33,10 +33,6 @@ fault_row (row.Plain x y) f regs a bytes b h = absurd (let e : stepped.Fault f �
 fault_row (row.Calls k x) f regs a bytes b h = absurd (let e : stepped.Fault f ≡ stepped.Call k = h.0 in cc)
 fault_row (row.Faults g) f regs a bytes b h = let e : stepped.Fault f ≡ stepped.Fault g = h.0 in (cc, h.1, h.2)
 
--- one instruction more
-pub one_more : (k : ℕ) (m n : Machine) → plain_steps k m ≡ Some n → plain_steps (suc k) m ≡ plain_row (instruction n.regs n.bytes)
-one_more k m n e = ap (λ o. bind o (λ n. plain_row (instruction n.regs n.bytes))) e
-
 -- where one isn't plain, no more are
 pub none_later : (j i : ℕ) (m : Machine) → plain_steps j m ≡ None → plain_steps (i + j) m ≡ None
 none_later j zero m e = let k : j ≡ zero + j = omega arith in subst (λ (k : ℕ). plain_steps k m ≡ None) k e

@@ -24,10 +24,7 @@ use Rattle.dm_onekernel.specs.Boot.{IsValid, blocks_of_image, controls_child, im
 use Rattle.dm_onekernel.specs.Start.{memory_of, slots_with}
 use Rattle.dm_replay.specs.Begun.{child_of}
 use Rattle.dm_replay.proofs.Making.{image_fits}
-
-none_lawful : (n : ℕ) → All SlotIsLawful (replicate n None)
-none_lawful zero = All-nil SlotIsLawful
-none_lawful (suc n) = All-cons SlotIsLawful None (replicate n None) tt (none_lawful n)
+use Rattle.dm_datamove.proofs.Tested.{none_lawful}
 
 -- a process that begins
 pub enough : (f : Format) → 3 ≤ slots_of f

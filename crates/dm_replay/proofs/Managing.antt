@@ -32,10 +32,6 @@ if_keeps : (c : Bool) (g : Managing) (t u : Taken) → Keeps g t → Keeps g u �
 if_keeps true g t u h k = h
 if_keeps false g t u h k = k
 
-over_keeps : (here : ℕ) (g : Managing) (o : Option Link) (code : ℕ) (links : List Link) → Keeps g (answers_over here g o code links)
-over_keeps here g None code links = record { machines = refl; images = refl; sent = omega arith; children = omega arith; plain = tt }
-over_keeps here g (Some l) code links = record { machines = refl; images = refl; sent = omega arith; children = omega arith; plain = refl }
-
 bad_keeps : (here : ℕ) (g : Managing) (links : List Link) → Keeps g (bad_request here g links)
 bad_keeps here g [] = record { machines = refl; images = refl; sent = omega arith; children = omega arith; plain = tt }
 bad_keeps here g (l ∷ ls) = record { machines = refl; images = refl; sent = omega arith; children = omega arith; plain = refl }
@@ -101,7 +97,7 @@ some_is e = cc
 
 created_keeps : (here : ℕ) (g : Managing) (n : ℕ) (child : Pid) (o : Option Pending) (t : Taken) → takes_created here g n child o ≡ Some t → Keeps g t
 created_keeps here g n child None t e = absurd (cc)
-created_keeps here g n child (Some r) t e = subst (Keeps g) (some_is e) (created_over here g n child r.answer (control_link here (length g.children + 1) ∷ []))
+created_keeps here g n child (Some r) t e = subst (Keeps g) (some_is e) (created_over here g n child r.answer (control_link here g.moves (length g.children + 1) ∷ []))
 
 no_room_keeps : (here : ℕ) (g : Managing) (n : ℕ) (o : Option Pending) (t : Taken) → takes_no_room here g n o ≡ Some t → Keeps g t
 no_room_keeps here g n None t e = absurd (cc)

@@ -85,15 +85,6 @@ always_none (Some x) go h = h x
 pub answered_not : (s : OneKernel) (id : MsgId) → step s (label.Answered id ends.Ended) ≡ None
 answered_not s id = answered_row s id ends.Ended ∙ always_none (noted_by s id) (λ (r : Pid × MoveNote). ends_move s id r.0 r.1 ends.Ended) (λ r. refl)
 
--- a process is asked for
-pub created_row : (s : OneKernel) (id : MsgId) (m : Message) (child : Pid) (w : PlainWhat) → s.bag id ≡ plain_message m → plain_what m.what ≡ Some w
-    → step s (label.Created id child) ≡ creates s id (said m w) child w
-created_row s id m child w e k = ap (λ o. bind o (λ (m : PlainMessage). creates s id m child m.what)) (e ∙ ap (with_what m) k)
-
-pub no_space_row : (s : OneKernel) (id : MsgId) (m : Message) (a b : ℕ) (w : PlainWhat) → s.bag id ≡ plain_message m → plain_what m.what ≡ Some w
-    → step s (label.NoSpace id a b) ≡ has_no_room s id (said m w) w
-no_space_row s id m a b w e k = ap (λ o. bind o (λ (m : PlainMessage). has_no_room s id m m.what)) (e ∙ ap (with_what m) k)
-
 -- a message that doesn't ask its receiver to move
 not_followed : (s : OneKernel) (id : MsgId) (m : Message) (o : Option PlainWhat) → option_map_or is_plain_move o false ≡ false
     → bind (with_what m o) (λ (m : PlainMessage). bind (at_hand s m.to) (λ p. follows_request s id m m.what)) ≡ None

@@ -28,10 +28,6 @@ pub refused : {B C : Type 0} (e : Refusal) (o : Option B) (go : B → Option C) 
 refused no.NoStep o go h = ap (λ o. bind o go) h
 refused (no.NoMemory e) o go h = tt
 
--- want of memory refuses nothing
-pub is_none : {B : Type 0} (o : Option B) → o ≡ None → IsRefused no.NoStep o
-is_none o e = e
-
 -- what is put back where it was taken out
 pub returned : (s m n : OneKernel) (p : Pid) (l : Life) → m ≡ without_process s p → n ≡ with_process m p l → n ≡ with_process s p l
 returned s m n p l e f = f ∙ ap (λ s. with_process s p l) e ∙ back s p l

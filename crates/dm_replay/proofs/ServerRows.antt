@@ -45,8 +45,3 @@ nobody_what s id m (Some w) e f = either (pid_eq m.to.pid switchboard) false _ _
 pub took_nobody : (s : OneKernel) (id : MsgId) (m : Message) → s.bag id ≡ plain_message m → pid_eq m.to.pid switchboard ≡ false → pid_eq m.to.pid manager ≡ false
     → bind (s.bag id) (takes s id) ≡ None
 took_nobody s id m at off nor = ap (λ o. bind o (takes s id)) at ∙ nobody_what s id m (plain_what m.what) off nor
-
--- two steps are one
-pub in_turn : {A B C : Type 0} (o : Option A) (f : A → Option B) (g : B → C) → bind o (λ x. bind (f x) (λ t. Some (g t))) ≡ bind (bind o f) (λ t. Some (g t))
-in_turn None f g = refl
-in_turn (Some x) f g = refl

@@ -137,9 +137,6 @@ said_of : {X : Type 0} (m : Message) (o : Option PlainWhat) (pending : ℕ) (go 
 said_of m None pending go h = refl
 said_of m (Some w) pending go h = if_false (m.id.n == pending) (go w) h
 
-and_true : (b : Bool) → true && b ≡ false → b ≡ false
-and_true b e = e
-
 so_false : (a b : Bool) → a && b ≡ false → a ≡ true → b ≡ false
 so_false true b e h = e
 so_false false b e h = absurd (cc)

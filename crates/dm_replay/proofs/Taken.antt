@@ -24,6 +24,7 @@ use Rattle.dm_replay.specs.declared.life.Life.TheVariants.{Alive, Ended}
 use Rattle.dm_replay.specs.Living.{alive_of, at, life_of, with_life, without_life}
 use Rattle.dm_replay.specs.Sound.{IsFit, IsSound}
 use Rattle.dm_replay.specs.State.{one_kernel, plain_note, without_process}
+pub use Rattle.dm_switchboard.proofs.Entries.{none_of as none_if}
 
 -- a process that is put back where it was taken out
 pub back : (s : OneKernel) (p : Pid) (l : Life) → with_process (without_process s p) p l ≡ with_process s p l
@@ -128,20 +129,6 @@ is_here None x e = absurd (cc)
 is_here (Some (Alive y)) x e = let same : y ≡ x = cc in ap (λ (x : Process). Some (plain_process x)) same
 is_here (Some (Ended y)) x e = absurd (cc)
 
-pub not_here : (o : Option (made.Life Process)) → alive_of o ≡ None → alive (life_of o) ≡ None
-not_here None e = refl
-not_here (Some (Alive y)) e = absurd (cc)
-not_here (Some (Ended y)) e = refl
-
--- whether it is at hand
-pub at_hand_when : (o : Option (made.Life Process)) (n : Option Note) → is_some (alive_of o) && not (is_some n) ≡ is_some (option_map_or (λ (note : MoveNote). None) (option_map plain_note n) (alive (life_of o)))
-at_hand_when None None = refl
-at_hand_when None (Some n) = refl
-at_hand_when (Some (Alive x)) None = refl
-at_hand_when (Some (Alive x)) (Some n) = refl
-at_hand_when (Some (Ended y)) None = refl
-at_hand_when (Some (Ended y)) (Some n) = refl
-
 pub hand_is_here : (o : Option (made.Life Process)) (n : Option Note) → is_some (option_map_or (λ (note : MoveNote). None) (option_map plain_note n) (alive (life_of o))) ≡ true → IsSome (alive_of o)
 hand_is_here (Some (Alive x)) n h = refl
 hand_is_here o None h = absurd (cc)
@@ -151,10 +138,6 @@ pub at_hand_as : (o : Option (made.Life Process)) (n : Option Note) (x : Process
     → option_map_or (λ (note : MoveNote). None) (option_map plain_note n) (alive (life_of o)) ≡ Some (plain_process x)
 at_hand_as o None x e h = is_here o x e
 at_hand_as o (Some n) x e h = absurd (cc)
-
-pub none_if : {A : Type 0} (o : Option A) → is_some o ≡ false → o ≡ None
-none_if None e = refl
-none_if (Some x) e = absurd (cc)
 
 pub is_executing : (x : Process) → is_some (if_ready (plain_process x) (plain_status x.status)) ≡ true → (x.status ≡ status.Ready) × (if_ready (plain_process x) (plain_status x.status) ≡ Some (plain_process x))
 is_executing x h = by x.status x.stopped (plain_process x) h

@@ -93,11 +93,3 @@ some_call o d n e = ap (λ o. is_some (bind o (λ d. Some (one.Calls n d)))) e
 
 pub call_said : (after : Process) (called : Called) (d : kernel.Called) (n : ℕ) → plain_called called after ≡ Some d → IsSaidTrap after (trap.Call n called)
 call_said after called d n e = some_call (plain_called called after) d n e
-
--- and the message of it
-sent_said : (o : Option PlainWhat) (m : Message) (x : Process) (n : ℕ) → is_some (bind (plain_sent (with_what m o) x) (λ d. Some (one.Calls n d))) ≡ true → is_some o ≡ true
-sent_said None m x n e = absurd (cc)
-sent_said (Some w) m x n e = refl
-
-pub message_said : (m : Message) (x : Process) (n : ℕ) → IsSaidTrap x (trap.Call n (called_.Sent m)) → is_some (plain_what m.what) ≡ true
-message_said m x n h = sent_said (plain_what m.what) m x n h

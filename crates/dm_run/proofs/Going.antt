@@ -40,7 +40,7 @@ running_on old new e lines r world going same d = record {
   went = subst (λ (x : Boot). Went x (r.steps ++ e ∷ []) (r.groups ++ lines ∷ []) (world_state new)) (sym same) (goes r.steps r.groups (world_state old) e lines (world_state new) r.went d);
 }
 
-pub ends_may : RunsGo → (w : World) → IsRunning w → EndsMay (length w.boot.machines) (world_state w)
+pub ends_may : RunsGo → (w : World) → IsRunning w → EndsMay w.boot (world_state w)
 ends_may law w r = law.may_end w.boot r.steps r.groups (world_state w) r.world.valid r.went
 
 -- what a loop over directives has of its world

@@ -98,7 +98,7 @@ offer_stops a b ds old new before now after w u e ls WriteFault same one boot h 
     }
 
 -- the lines at the end were offered
-pub ended_by : (A : Type 0) (b : Boot) (ds : List Directive) (before now after : Option (List ℕ)) (w : World) (es : List EndLine) (r : Result A Stop) → IsThrough b ds before now w → es ≡ world_end_lines (length b.machines) (world_state w) → All EndFits es → Offered now (text_of_ends es) after r → Ended by_world b ds before after (Some w) r
+pub ended_by : (A : Type 0) (b : Boot) (ds : List Directive) (before now after : Option (List ℕ)) (w : World) (es : List EndLine) (r : Result A Stop) → IsThrough b ds before now w → es ≡ world_end_lines b (world_state w) → All EndFits es → Offered now (text_of_ends es) after r → Ended by_world b ds before after (Some w) r
 ended_by A b ds before now after w es (Ok x) h said fits o =
     let come = h.ended.come in
     record {
@@ -136,14 +136,6 @@ ended_by A b ds before now after w es (Err WriteFault) h said fits o =
 pub came_err : {A : Type 0} (b : Boot) (ds : List Directive) (before after : Option (List ℕ)) (u : World) (r : Result A Stop) (e : Stop) → IsErr r × IsErrAnd r (λ y. y ≡ e) → Stopped by_world b ds before after (Some u) e → Came b ds before after u r
 came_err b ds before after u (Ok x) e h p = absurd (false≢true h.0)
 came_err b ds before after u (Err y) e h p = subst (λ (x : Stop). Stopped by_world b ds before after (Some u) x) (sym h.1) p
-
-pub ended_err : {A : Type 0} (b : Boot) (ds : List Directive) (before after : Option (List ℕ)) (u : World) (r : Result A Stop) (e : Stop) → IsErr r × IsErrAnd r (λ y. y ≡ e) → Stopped by_world b ds before after (Some u) e → Ended by_world b ds before after (Some u) r
-ended_err b ds before after u (Ok x) e h p = absurd (false≢true h.0)
-ended_err b ds before after u (Err y) e h p = subst (λ (x : Stop). Stopped by_world b ds before after (Some u) x) (sym h.1) p
-
-pub blames_err : {A : Type 0} (old mid new : ℕ) (r : Result A Stop) (e : Stop) → IsErr r × IsErrAnd r (λ y. y ≡ e) → mid ≡ old → BlamesBy mid new e → Blames old new r
-blames_err old mid new (Ok x) e h same p = absurd (false≢true h.0)
-blames_err old mid new (Err y) e h same p = subst (λ (k : ℕ). BlamesBy k new y) same (subst (λ (x : Stop). BlamesBy mid new x) (sym h.1) p)
 
 -- nothing was done, since memory lacked
 pub nothing_printed : (b : Boot) (ds : List Directive) (before : Option (List ℕ)) → IsOfFirst by_world b ds before before

@@ -55,7 +55,7 @@ by_world = record {
   IsOver = λ b ds p. IsDone b ds p.state p.way;
   Rests = λ b ds p. ⊤;
   Wears = λ b ds p from to. WorldWears b p from to;
-  ends = λ b p. end_lines (length b.machines) p.state;
+  ends = λ b p. end_lines b p.state;
   IsQuiet = λ b p. world_is_quiet (length b.machines) p.state ≡ true;
   Stands = λ b p w. world_state w ≡ p.state;
 }

@@ -65,14 +65,14 @@ pub data Led (b : Boot) (ds : List Directive) : Way → List Step → List (List
       → Led b ds (record way { cursor = after }) (es ++ e ∷ []) (gs ++ lines ∷ []) u
 
 -- the lines at the end can be said, and say each link whole
-pub record EndsMay (n : ℕ) (w : WorldState) : Type 0 where
-  pub may : MayEnd n w
-  pub whole : All HidesNothing (end_lines n w)
+pub record EndsMay (b : Boot) (w : WorldState) : Type 0 where
+  pub may : MayEnd (length b.machines) w
+  pub whole : All HidesNothing (end_lines b w)
 
 -- the law of runs: wherever one has come, each directive for its machines may be done, and so is what comes next of directives for
 -- them; where everything stands can be said; and no directive has more than 2 ^ 90 groups
 pub record RunsGo : Type 0 where
   pub may : (b : Boot) (es : List Step) (gs : List (List Line)) (w : WorldState) (e : Step) → IsValid b → Went b es gs w → IsStep (length b.machines) e → MayStep b w e
   pub fits : (b : Boot) (ds : List Directive) (way : Way) (es : List Step) (gs : List (List Line)) (w : WorldState) (e : Step) (after : Cursor) → IsValid b → All (IsFor (length b.machines)) ds → Led b ds way es gs w → ComesNext (length b.machines) w way.cursor e after → IsStep (length b.machines) e
-  pub may_end : (b : Boot) (es : List Step) (gs : List (List Line)) (w : WorldState) → IsValid b → Went b es gs w → EndsMay (length b.machines) w
+  pub may_end : (b : Boot) (es : List Step) (gs : List (List Line)) (w : WorldState) → IsValid b → Went b es gs w → EndsMay b w
   pub few : (b : Boot) (ds : List Directive) (way : Way) (es : List Step) (gs : List (List Line)) (w : WorldState) → IsValid b → All (IsFor (length b.machines)) ds → Led b ds way es gs w → w.groups ≤ way.begun * 2 ^ 90

@@ -42,7 +42,7 @@ pub fn step_on(world: &mut World, step: &Step) -> Result<Vec<Line>, WorldStop>
     ensures running { OnOk result (IsRunning world.new) }
     ensures groups { OnOk result (world.new.groups ≡ world.old.groups + 1) }
     ensures fits { IfOk result (λ lines. All LineFits lines.items) }
-    ensures alone { OnOk result (ActsAlone (acts_on step.now) (world_state world.old) (world_state world.new)) }
+    ensures alone { OnOk result (ActsAlone (acts_on world.old.boot (world_state world.old) step.now) (world_state world.old) (world_state world.new)) }
     ensures boot { world.new.boot ≡ world.old.boot }
     ensures worn { IfErr result (λ stop. StopsWorn world.old.boot (world_state world.old) step.now stop) }
     ensures stopped { OnErr result (world.new.stopped ≡ true) }
@@ -75,7 +75,7 @@ pub fn do_step(world: &mut World, step: &Step) -> Result<Vec<Line>, Stop>
 pub fn end_lines(world: &World) -> Result<Vec<EndLine>, NoMemory>
     requires law { RunsGo }
     requires running { IsRunning world.now }
-    ensures ends { IfOk result (λ ends. ends.items ≡ ends_of (length world.now.boot.machines) (world_state world.now)) }
+    ensures ends { IfOk result (λ ends. ends.items ≡ ends_of world.now.boot (world_state world.now)) }
     ensures fits { IfOk result (λ ends. All EndFits ends.items) }
 {
     let ends = world.end_lines()?;

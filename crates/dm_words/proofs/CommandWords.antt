@@ -9,7 +9,7 @@ is_free : is_simple_and_free demosmp ≡ true
 unfolding clap_on_literals
 is_free = refl
 
-left_true : (a b : Bool) → (a && b) ≡ true → a ≡ true
+pub left_true : (a b : Bool) → (a && b) ≡ true → a ≡ true
 left_true true b e = refl
 left_true false b e = e
 

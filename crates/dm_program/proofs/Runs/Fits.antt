@@ -4,13 +4,7 @@ use Rattle.dm_schedule.specs.declared.Step.TheVariants as step
 use Rattle.dm_schedule.specs.declared.Directive.TheVariants as directive
 use Rattle.dm_rule.specs.Laws as rule
 use Rattle.dm_run.specs.Runs as run
-
-pub step_fits : (n : ℕ) (e : Step) → run.IsStep n e → rule.IsStep n e
-step_fits n (step.Turn m) h = h
-step_fits n (step.Tick m) h = h
-step_fits n (step.Deliver a b k) h = h
-step_fits n (step.Migrate p m) h = h
-step_fits n (step.CallOff p m) h = h
+pub use Rattle.dm_checklaws.proofs.Printed.{step_same as step_fits}
 
 pub step_is : (n : ℕ) (e : Step) → rule.IsStep n e → run.IsStep n e
 step_is n (step.Turn m) h = h

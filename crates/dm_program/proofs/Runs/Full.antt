@@ -3,20 +3,19 @@ use Rattle.dm_program.proofs.Runs.Names.{◌≡◌, ◌≤◌, ◌<◌, ℕ, Boo
 use Rattle.dm_program.proofs.Runs.Names.{View, view_after, Point, label_of, kernel_after, after_line, after, moved, Spelled, group_of, Two, or, is_full, full_route, worn_in, seen, group_after, worn_alike, ids_of, Grows, grows_on, grows_same}
 use Rattle.dm_program.proofs.Runs.Names.{seen_grows, put_adds, act_of}
 use Rattle.dm_line.specs.declared.line.Line.TheVariants as line
+use Rattle.dm_mirror.proofs.Come.Frames.{least_of}
+use Rattle.dm_checklaws.proofs.Full.{lines_grow}
 
 -- more than so many
 abbrev pub IsOver : ℕ → View → Two → Type 0
 IsOver numbers v p = numbers < length (v.pair p.from p.to).ids
-
-at_least : (numbers n : ℕ) → nat_le numbers n ≡ true → numbers ≤ n
-at_least numbers n e = grind (arith, nat_tests)
 
 put_over : (numbers : ℕ) (v : View) (a b : ℕ) (id : MsgId) (k : MessageKind) (q : Pid) (p : Two) (full : Bool) → is_full numbers v a b ≡ full → (if full then Some (record { from = a; to = b }) else None) ≡ Some p
     → IsOver numbers (view_after v (line.Put a b id k q)) p
 put_over numbers v a b id k q p true e is =
     let pair : Two = record { from = a; to = b } in
     let f : pair ≡ p = cc in
-    let most = at_least numbers (length (v.pair a b).ids) e in
+    let most = least_of numbers (length (v.pair a b).ids) e in
     let more = put_adds v a b id k q in
     subst (IsOver numbers (view_after v (line.Put a b id k q))) f (let over : numbers < ids_of (view_after v (line.Put a b id k q)) a b = omega (arith, most, more) in over)
 put_over numbers v a b id k q p false e is = cc
@@ -24,14 +23,6 @@ put_over numbers v a b id k q p false e is = cc
 full_over : (numbers : ℕ) (v : View) (l : Line) (p : Two) → full_route numbers v (act_of l) ≡ Some p → IsOver numbers (view_after v l) p
 full_over numbers v (line.Put a b id k q) p e = put_over numbers v a b id k q p (is_full numbers v a b) refl e
 full_over numbers v l p e = cc
-
-lines_grow : (ls : List Line) (pt q : Point) → after pt ls ≡ Some q → Grows pt.view q.view
-lines_grow [] pt q e = let f : pt ≡ q = cc in subst (λ (x : Point). Grows pt.view x.view) f (grows_same pt.view pt.view refl)
-lines_grow (l ∷ ls) pt q e =
-    let (mid, first, rest) = bind-is (after_line pt l) (λ (next : Point). after next ls) q e in
-    let (s, step, last) = bind-is (kernel_after pt.kernel (label_of l)) (λ (s : OneKernel). Some (moved pt l s)) mid first in
-    let f : moved pt l s ≡ mid = cc in
-    grows_on pt.view mid.view q.view (subst (λ (x : Point). Grows pt.view x.view) f (seen_grows pt.kernel pt.view l)) (lines_grow ls mid q rest)
 
 -- the first line that wears the pair, or one behind it
 or_over : (numbers : ℕ) (pt q : Point) (l : Line) (ls : List Line) (p : Two) (o : Option Two) → full_route numbers pt.view (act_of l) ≡ o → Grows (seen pt.kernel pt.view l) q.view

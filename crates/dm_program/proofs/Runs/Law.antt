@@ -28,19 +28,13 @@ pub has_ran : (b : Boot) (es : List Step) (gs : List (List Line)) (w : WorldStat
 has_ran b _ _ _ valid begins = record { point = first_point b; ran = ran_begins b valid }
 has_ran b _ _ _ valid (goes es gs w e lines u before d) = one_more b es gs w e lines u valid (has_ran b es gs w valid before) d
 
-some_machines : (b : Boot) → IsValid b → 0 < length b.machines
-some_machines b valid = least (length b.machines) valid.some_machines
-  where
-    least : (n : ℕ) → nat_le 1 n ≡ true → 0 < n
-    least n e = grind (arith, nat_tests)
-
 -- no line at the end hides a mark
-hides : (b : Boot) (es : List Step) (pt : Point) (w : WorldState) → IsValid b → Leads b (first_point b) es pt → Stands b w pt → All HidesNothing (world_ends.end_lines (length b.machines) w)
+hides : (b : Boot) (es : List Step) (pt : Point) (w : WorldState) → IsValid b → Leads b (first_point b) es pt → Stands b w pt → All HidesNothing (world_ends.end_lines b w)
 hides b es pt w valid leads stands =
     let machines : pt.kernel.machines ≡ length b.machines = machines_stay b es pt valid leads in
-    end_hides (length b.machines) w (some_machines b valid) (λ m l. (stands.0.2.nodes m (omega (arith, l, machines))).lawful)
+    end_hides b w (λ m l. (stands.0.2.nodes m (omega (arith, l, machines))).lawful)
 
-ends_may : (b : Boot) (es : List Step) (gs : List (List Line)) (w : WorldState) → IsValid b → HasRan b es gs w → EndsMay (length b.machines) w
+ends_may : (b : Boot) (es : List Step) (gs : List (List Line)) (w : WorldState) → IsValid b → HasRan b es gs w → EndsMay b w
 ends_may b es gs w valid h = record { may = end_may b es w h.point valid h.ran.leads h.ran.stands; whole = hides b es h.point w valid h.ran.leads h.ran.stands }
 
 pub runs_go : RunsGo

@@ -26,7 +26,7 @@ pub use Rattle.dm_syscall.proofs.Names.{drop-cons}
 pub use Rattle.dm_rule.proofs.Names.{Directive, IsStep, Leads, Line, Next, Point, Spelled, Step, Todo, View, after, after_line, all_of, bind-is, first_point, group_of, kernel_after, label_of, moved, next_step, seen, view_after}
 pub use Rattle.dm_rule.specs.Worn.{IsWorn}
 pub use Rattle.dm_places.proofs.Names.{Pending}
-pub use Rattle.dm_kernel.proofs.Names.{All-head, All-tail, Block, Chunk, Forward, Frozen, Global, Here, Incoming, IsLawfulKnown, IsLawfulPair, IsLawfulState, KernelKnown, Nothing, Vec, Wanted}
+pub use Rattle.dm_kernel.proofs.Names.{All-head, All-tail, Block, Chunk, Forward, Frozen, Global, Here, Incoming, IsLawfulKnown, IsLawfulState, KernelKnown, Nothing, Vec, Wanted}
 pub use Rattle.dm_rulelaws.proofs.Decided.{shorter_begins}
 pub use Rattle.dm_rulelaws.proofs.Names.{IsRun}
 pub use Rattle.dm_movelaws.proofs.Names.{EndLine, Standing, act_of, block_line, joined_below, home_with, list_line, memory_lines, or, trimmed}
@@ -39,7 +39,7 @@ pub use Rattle.dm_settlelaws.specs.Passes.{turns_in}
 pub use Rattle.dm_text.proofs.Names.{EndFits, LineFits, text}
 pub use Rattle.dm_text.specs.Fits.{HidesNothing}
 unfoldable pub use Rattle.dm_text.specs.Text.{text_of_ends, text_of_lines}
-pub use Rattle.dm_node.proofs.Names.{Acts, Goes, IsErrAnd, OrNoMemory, Packet, Servers}
+pub use Rattle.dm_node.proofs.Names.{Acts, Goes, IsErrAnd, OrNoMemory, Packet}
 pub use Rattle.dm_world.proofs.Names.{Answers, AreReadBack, Falls, Happened, IsWorld, IsWornOut, MayStep, MeetsSome, NextIs, Round, Said, Says, SettleGoes, WorldState, WornOut, acted, after_mark, bytes_at, delivers, drop_all, reads}
 pub use Rattle.dm_world.proofs.Names.{room_of, turned, turns_at, turns_of, world_has_mail, world_is_quiet, world_next_step, world_state, world_step, world_undelivered}
 pub use Rattle.dm_world.specs.Cursor.{IsSettling, left, todo_of}

@@ -2,7 +2,20 @@
 use Rattle.dm_program.proofs.Runs.Names.{◌≡◌, ℕ, zero, suc, ◌/◌, ◌%◌, ◌==◌, Bool, true, false, List, [], ◌∷◌, length, refl, sym, ap, subst, ⊤, if◌then◌else◌, All, All-nil, All-cons, Option, None, Some, Result, Ok, Err, Link, Process, PacketError}
 use Rattle.dm_program.proofs.Runs.Names.{Field, ◌>>=◌, both, number, LinkParts, addr, channel, flags, len_from, link, link_of_parts, held_if, bind_ok, ok_is, StateBytesError, Shell, Front, by_rule, only_shell, front, read_shell, shell}
 use Rattle.dm_program.proofs.Runs.Names.{shell_of_bytes, shell_with, mask, read_slots, slots, table, Arrival, restarted, revived, revived_from}
+use Rattle.std.specs.Prelude.{◌++◌, option_map}
+use Rattle.dm_link.specs.Names.{pid_eq}
+use Rattle.dm_onekernel.specs.Boot.{switchboard}
 use Rattle.dm_packet.specs.declared.PacketError.TheVariants as bad
+use Rattle.dm_statebytes.specs.Servers.{Counts, by_rules, only_read, server_front}
+use Rattle.dm_switchboard.specs.Board.{Board, Named}
+use Rattle.dm_switchboard.specs.Packed.{board, name_behind, named_behind, names, names_behind, read_names}
+use Rattle.dm_switchboard.specs.Packed.{board_of_bytes}
+use Rattle.dm_procman.specs.Managing.{Managing}
+use Rattle.dm_procman.specs.Packed.{manager_of_bytes}
+use Rattle.dm_resident.specs.Residents.{moved as moved_on}
+use Rattle.dm_resident.specs.declared.Resident.{Resident}
+use Rattle.dm_resident.specs.declared.Resident.TheVariants as resident
+use Rattle.dm_migrate.specs.Arrival.{is_process_coming, moved_board, moved_manager, server_of_bytes}
 
 -- what a slot holds, if anything, leads to no kernel
 abbrev pub SlotHides : Option Link → Type 0
@@ -11,6 +24,21 @@ SlotHides (Some l) = l.to_kernel ≡ false
 
 abbrev pub TableHides : List (Option Link) → Type 0
 TableHides slots = All SlotHides slots
+
+abbrev pub NamedHides : Named → Type 0
+NamedHides k = k.link.to_kernel ≡ false
+
+abbrev named_of : List ℕ × Link → Named
+named_of e = record { name = e.0; link = e.1 }
+
+abbrev board_with : Counts × List Named → Board
+board_with b = record { names = b.1; sent = b.0.0; moves = b.0.1 }
+
+-- what can move, and what it keeps outside a queue
+abbrev pub ResidentHides : Resident → Type 0
+ResidentHides (resident.Process x) = TableHides x.table
+ResidentHides (resident.Board b) = All NamedHides b.names
+ResidentHides (resident.Manager g) = ⊤
 
 abbrev link_parts : Field LinkParts
 link_parts = both addr (λ _. both flags (λ _. both (number 4) (λ _. both channel (λ _. both (number 4) (len_from 65536)))))
@@ -94,6 +122,89 @@ revived_hides : (r : Result Shell StateBytesError) (memory : List ℕ) (x : Proc
 revived_hides (Ok s) memory x h e = let f : revived s memory ≡ x = cc in subst (λ (y : Process). TableHides y.table) f (h s refl)
 revived_hides (Err d) memory x h e = cc
 
--- so a process that has come whole has no link to a kernel
-pub restarted_hides : (a : Arrival) (x : Process) → restarted a ≡ Some x → TableHides x.table
-restarted_hides a x e = revived_hides (shell_of_bytes a.state a.cap) a.memory x (bytes_hide a.state a.cap) e
+-- the names of a switchboard
+named_hides : (earlier : List Named) (bytes : List ℕ) (r : Named × List ℕ) → (named_behind earlier).read bytes ≡ Ok r → NamedHides r.0
+named_hides earlier bytes r e =
+    let a = bind_ok ((both (name_behind earlier) (λ _. link)).read bytes) (λ x. Ok (named_of x.0, x.1)) r e in
+    let c = bind_ok ((name_behind earlier).read bytes) (λ x. link.read x.1 >>= λ y. Ok ((x.0, y.0), y.1)) a.0 a.1 in
+    let d = bind_ok (link.read c.0.1) (λ y. Ok ((c.0.0, y.0), y.1)) a.0 c.2 in
+    let f : ((c.0.0, d.0.0), d.0.1) ≡ a.0 = ok_is ((c.0.0, d.0.0), d.0.1) a.0 d.2 in
+    let g : (named_of a.0.0, a.0.1) ≡ r = ok_is (named_of a.0.0, a.0.1) r a.2 in
+    let made : a.0.0.1.to_kernel ≡ false = subst (λ (x : (List ℕ × Link) × List ℕ). x.0.1.to_kernel ≡ false) f (link_hides c.0.1 d.0 d.1) in
+    subst (λ (x : Named × List ℕ). NamedHides x.0) g made
+
+names_hide : (n : ℕ) (earlier : List Named) (bytes : List ℕ) (r : List Named × List ℕ) → read_names n earlier bytes ≡ Ok r → All NamedHides r.0
+names_hide zero earlier bytes r e =
+    let none : List Named × List ℕ = ([], bytes) in
+    let f : none ≡ r = ok_is none r e in
+    subst (λ (x : List Named × List ℕ). All NamedHides x.0) f (All-nil NamedHides)
+names_hide (suc n) earlier bytes r e =
+    let a = bind_ok ((named_behind earlier).read bytes) (λ first. read_names n (earlier ++ first.0 ∷ []) first.1 >>= λ others. Ok (first.0 ∷ others.0, others.1)) r e in
+    let c = bind_ok (read_names n (earlier ++ a.0.0 ∷ []) a.0.1) (λ others. Ok (a.0.0 ∷ others.0, others.1)) r a.2 in
+    let made : List Named × List ℕ = (a.0.0 ∷ c.0.0, c.0.1) in
+    let f : made ≡ r = ok_is made r c.2 in
+    subst (λ (x : List Named × List ℕ). All NamedHides x.0) f (All-cons NamedHides a.0.0 c.0.0 (named_hides earlier bytes a.0 a.1) (names_hide n (earlier ++ a.0.0 ∷ []) a.0.1 c.0 c.1))
+
+counted_hides : (bytes : List ℕ) (r : List Named × List ℕ) → names.read bytes ≡ Ok r → All NamedHides r.0
+counted_hides bytes r e =
+    let a = bind_ok ((both (number 4) (names_behind [])).read bytes) (λ x. Ok (x.0.1, x.1)) r e in
+    let c = bind_ok ((number 4).read bytes) (λ x. (names_behind [] x.0).read x.1 >>= λ y. Ok ((x.0, y.0), y.1)) a.0 a.1 in
+    let d = bind_ok ((names_behind [] c.0.0).read c.0.1) (λ y. Ok ((c.0.0, y.0), y.1)) a.0 c.2 in
+    let f : ((c.0.0, d.0.0), d.0.1) ≡ a.0 = ok_is ((c.0.0, d.0.0), d.0.1) a.0 d.2 in
+    let g : (a.0.0.1, a.0.1) ≡ r = ok_is (a.0.0.1, a.0.1) r a.2 in
+    let made : All NamedHides a.0.0.1 = subst (λ (x : (ℕ × List Named) × List ℕ). All NamedHides x.0.1) f (names_hide c.0.0 [] c.0.1 d.0 d.1) in
+    subst (λ (x : List Named × List ℕ). All NamedHides x.0) g made
+
+board_hides : (bytes : List ℕ) (r : Board × List ℕ) → board.read bytes ≡ Ok r → All NamedHides r.0.names
+board_hides bytes r e =
+    let a = bind_ok ((both (server_front switchboard) (λ _. names)).read bytes) (λ x. Ok (board_with x.0, x.1)) r e in
+    let c = bind_ok ((server_front switchboard).read bytes) (λ x. names.read x.1 >>= λ y. Ok ((x.0, y.0), y.1)) a.0 a.1 in
+    let d = bind_ok (names.read c.0.1) (λ y. Ok ((c.0.0, y.0), y.1)) a.0 c.2 in
+    let f : ((c.0.0, d.0.0), d.0.1) ≡ a.0 = ok_is ((c.0.0, d.0.0), d.0.1) a.0 d.2 in
+    let g : (board_with a.0.0, a.0.1) ≡ r = ok_is (board_with a.0.0, a.0.1) r a.2 in
+    let made : All NamedHides a.0.0.1 = subst (λ (x : (Counts × List Named) × List ℕ). All NamedHides x.0.1) f (counted_hides c.0.1 d.0 d.1) in
+    subst (λ (x : Board × List ℕ). All NamedHides x.0.names) g made
+
+only_same : (t : Board × List ℕ) (b : Board) (whole : Bool) → (if whole then Ok t.0 else Err bad.Trailing) ≡ Ok b → t.0 ≡ b
+only_same t b true e = ok_is t.0 b e
+only_same t b false e = absurd cc
+
+abbrev fine_board : Board → Result Board StateBytesError
+fine_board b = Ok b
+
+by_rules_same : (r : Result Board PacketError) (b : Board) → by_rules r ≡ fine_board b → r ≡ Ok b
+by_rules_same (Ok t) b e = cc
+by_rules_same (Err d) b e = absurd cc
+
+board_bytes_hide : (bytes : List ℕ) (b : Board) → board_of_bytes bytes ≡ Ok b → All NamedHides b.names
+unfolding board_of_bytes
+board_bytes_hide bytes b e =
+    let a = bind_ok (board.read bytes) only_read b (by_rules_same (board.read bytes >>= only_read) b e) in
+    let f : a.0.0 ≡ b = only_same a.0 b (length a.0.1 == 0) a.2 in
+    subst (λ (x : Board). All NamedHides x.names) f (board_hides bytes a.0 a.1)
+
+-- what has come whole, case by case
+process_hides : (o : Option Process) (r : Resident) → ((x : Process) → o ≡ Some x → TableHides x.table) → option_map resident.Process o ≡ Some r → ResidentHides r
+process_hides None r h e = absurd cc
+process_hides (Some x) r h e = let f : resident.Process x ≡ r = cc in subst ResidentHides f (h x refl)
+
+moved_board_hides : (o : Result Board StateBytesError) (r : Resident) → ((b : Board) → o ≡ Ok b → All NamedHides b.names) → moved_board o ≡ Some r → ResidentHides r
+moved_board_hides (Ok b) r h e = let f : moved_on (resident.Board b) ≡ r = cc in subst ResidentHides f (h b refl)
+moved_board_hides (Err d) r h e = absurd cc
+
+moved_manager_hides : (o : Result Managing StateBytesError) (r : Resident) → moved_manager o ≡ Some r → ResidentHides r
+moved_manager_hides (Ok g) r e = let f : moved_on (resident.Manager g) ≡ r = cc in subst ResidentHides f tt
+moved_manager_hides (Err d) r e = absurd cc
+
+server_hides : (t : Bool) (machines images : ℕ) (state : List ℕ) (r : Resident) → (if t then moved_board (board_of_bytes state) else moved_manager (manager_of_bytes machines images state)) ≡ Some r → ResidentHides r
+server_hides true machines images state r e = moved_board_hides (board_of_bytes state) r (board_bytes_hide state) e
+server_hides false machines images state r e = moved_manager_hides (manager_of_bytes machines images state) r e
+
+either_hides : (t : Bool) (machines images : ℕ) (a : Arrival) (r : Resident) → (if t then option_map resident.Process (revived_from (shell_of_bytes a.state a.cap) a.memory) else server_of_bytes machines images a.pid a.state) ≡ Some r → ResidentHides r
+either_hides true machines images a r e =
+    process_hides (revived_from (shell_of_bytes a.state a.cap) a.memory) r (λ x. revived_hides (shell_of_bytes a.state a.cap) a.memory x (bytes_hide a.state a.cap)) e
+either_hides false machines images a r e = server_hides (pid_eq a.pid switchboard) machines images a.state r e
+
+-- so what has come whole has no link to a kernel
+pub restarted_hides : (machines images : ℕ) (a : Arrival) (r : Resident) → restarted machines images a ≡ Some r → ResidentHides r
+restarted_hides machines images a r e = either_hides (is_process_coming a) machines images a r e

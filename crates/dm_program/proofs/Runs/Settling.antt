@@ -7,6 +7,7 @@ use Rattle.dm_schedule.specs.declared.Step.TheVariants as step
 use Rattle.dm_schedule.specs.declared.Directive.TheVariants as directive
 use Rattle.dm_line.specs.declared.pass.Pass.TheVariants.{Rest}
 use Rattle.dm_settlelaws.specs.Left as settle
+use Rattle.dm_rulelaws.proofs.Sizes.Always.{few_machines}
 
 -- what a settle leaves to turns, by what was printed; of another directive it is never looked at
 abbrev pub turns_ahead : Boot → Cursor → View → ℕ
@@ -44,12 +45,6 @@ turns_most n directive.Round h k = let m = times_most n 1 h in omega (arith, m)
 turns_most n (directive.Spin r) h k = let m = spins_most n r h k.1 in omega (arith, m)
 turns_most n (directive.Rest r) h k = let m = spins_most n r h k.1 in omega (arith, m)
 turns_most n directive.Settle h k = omega arith
-
-few_machines : (b : Boot) → IsValid b → length b.machines ≤ 16
-few_machines b valid = most (length b.machines) valid.few_machines
-  where
-    most : (n : ℕ) → nat_le n 16 ≡ true → n ≤ 16
-    most n e = grind (arith, nat_tests)
 
 -- wherever the world stands for a point, no pair counts more messages than it may
 kept_there : (b : Boot) (es : List Step) (pt : Point) (w : WorldState) → IsValid b → Leads b (first_point b) es pt → Stands b w pt → IsKept b pt

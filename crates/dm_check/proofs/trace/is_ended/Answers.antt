@@ -13,7 +13,7 @@ returns-then-is_empty-clause-verdict c = λ k es gs s r.
 pub returns-in-Ok-follow_ends-clause-verdict : goal.returns-in-Ok-follow_ends-clause-verdict
 returns-in-Ok-follow_ends-clause-verdict c = λ k es gs s r.
     let begins : c.begins_end.result ≡ true = search rules in
-    let said : c.as_slice.result.now ≡ ends_of (length c.args.world.now.boot.machines) (world_state c.args.world.now) = c.as_slice.ensures.value ∙ c.in-Ok.ensures.ends in
+    let said : c.as_slice.result.now ≡ ends_of c.args.world.now.boot (world_state c.args.world.now) = c.as_slice.ensures.value ∙ c.in-Ok.ensures.ends in
     ended_by c.args.world.now.boot k es gs (world_state c.args.world.now) c.args.number c.args.text.now c.as_slice.result.now s r said c.requires.no_head (sym c.begins_end.ensures ∙ begins)
     ∙ c.in-Ok-follow_ends.ensures.ended k (length es) (full_there c.args.world.now.boot k es gs (world_state c.args.world.now) c.as_slice.result.now s r said)
 

@@ -12,7 +12,7 @@ pub returns-in-Ok-clause-ended : goal.returns-in-Ok-clause-ended
 returns-in-Ok-clause-ended g c =
     let h = c.in_ok-run_directives.ensures.came in
     ended_by (Unit {0}) c.args.world.now.boot c.args.directives.now (g.K.Sink.told c.args.out.now) (g.K.Sink.told c.run_directives.new.out) (g.K.Sink.told c.offer_ends.new.out) c.run_directives.new.world c.as_slice.result.now c.offer_ends.result h
-    (c.as_slice.ensures.value ∙ (c.in-Ok.ensures.ends ∙ ap (λ (b : Boot). world_end_lines (length b.machines) (world_state c.run_directives.new.world)) h.boot))
+    (c.as_slice.ensures.value ∙ (c.in-Ok.ensures.ends ∙ ap (λ (b : Boot). world_end_lines b (world_state c.run_directives.new.world)) h.boot))
     (subst (All EndFits) (sym c.as_slice.ensures.value) c.in-Ok.ensures.fits) c.offer_ends.ensures.says
 
 pub returns-clause-ended : goal.returns-clause-ended
