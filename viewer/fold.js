@@ -246,7 +246,6 @@ const LINES = {
     idle() {},
     none() {},
     nochild() {},
-    pinned() {},
     away() {},
     nocall() {},
     lacks() {},

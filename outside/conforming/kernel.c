@@ -180,6 +180,8 @@ static void handle(Message *message) {
     Process *process = living(message->to);
     if (message->to == KERNEL) {
         create(message);
+    } else if (message->to < FIRST && message->kind == MIGRATE) { // a server, which is there already
+        say("here %s\n", name_of(message));
     } else if (message->to < FIRST) {
         say("took %s\n", name_of(message));
         Message *sent = serve(message);
@@ -257,9 +259,7 @@ static void turn(void) {
 
 static void migrate(uint32_t home, uint32_t number) {
     say("migrate %u.%u 0\n", home, number);
-    if (home == 0 && (number == SWITCHBOARD || number == MANAGER)) {
-        say("pinned 0.%u\n", number);
-    } else if (home == 0 && is_child(number)) {
+    if (home == 0 && (number == SWITCHBOARD || number == MANAGER || is_child(number))) {
         Message *message = new_message(KERNEL, sent_by_kernel++, number, MIGRATE);
         message->sender = MANAGER;
         put(message);

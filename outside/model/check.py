@@ -2,7 +2,6 @@
 
 import re
 
-import standing
 from ends import end_lines
 from values import Pid
 from world import World, Worn
@@ -18,12 +17,11 @@ SHAPES = """
 turn M|tick M|deliver M M K|migrate P M|calloff P M|idle M|ran P N|call P N N|send P I|wait P|out P N|end P N|receive P I|refuse P I N
 put M M I T P|packet M M K data N|packet M M K ack N|taken M M N|old M M N|early M M N|acked M M N|none|resent M N
 queued I|held I|forwarded I M|dropped I|served I|gone I|took I|created I P|nospace I N N|updated I N
-step 1 P|step 2 P|step 3 P|step 4 P|step 5 P|step 6 P N|step 7 P|step 8 P|lacks P N N|stays P|called P N|nocall P|stale I|buried I N|here I|nomove I|proto I|nochild P|pinned P
+step 1 P|step 2 P|step 3 P|step 4 P|step 5 P|step 6 P N|step 7 P|step 8 P|lacks P N N|stays P|called P N|nocall P|stale I|buried I N|here I|nomove I|proto I|nochild P|away
 asked I|answered I N
-final|process P ended N|registers P N N N N N N N N N N N N N N N N N|memory P N H|link P N L|server P N|name B L
+final|process P ended N|registers P N N N N N N N N N N N N N N N N N|memory P N H|link P N L|server P N|place P at M here|place P at M leaving|place P at M arriving|name B L
 child N P at M|pending I|queue P I..|holding M P I..|inbox M I..|stream M M I..|end G
 """
-SERVERS_MOVE = "away|place P at M here|place P at M leaving|place P at M arriving"
 PLACES = ("here", "leaving", "arriving")
 STATUSES = ("ready", "waiting N N N", "moving 0 P N N N", "moving 1 P N N N")
 LINK = r"(?:general|reply) {P} at {M} moves {N} code {N} channel {N} area {N} {N} (?:-|r|w|rw)"
@@ -49,9 +47,7 @@ class Refused(Exception):
 
 def shapes():
     """Every shape, as its words."""
-    written = [SHAPES.strip().replace("|pinned P", "") if standing.SERVERS_MOVE else SHAPES.strip()]
-    written += [SERVERS_MOVE] * standing.SERVERS_MOVE
-    for shape in re.split(r"[|\n]", "\n".join(written)):
+    for shape in re.split(r"[|\n]", SHAPES.strip()):
         yield shape.split(" ")
     for place in PLACES:
         for status in STATUSES:

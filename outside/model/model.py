@@ -19,7 +19,6 @@ sys.dont_write_bytecode = True
 import boot as boot_file
 import check as trace_check
 import schedule as schedule_file
-import standing
 from counting import Counts, quiet_line
 from drill import directives_of, drawn_boot, drill
 from ends import end_lines

@@ -2,7 +2,6 @@
 
 import re
 
-import standing
 from values import Pid
 
 NUMBER = re.compile(rb"[0-9]{1,10}")

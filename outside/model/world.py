@@ -7,7 +7,6 @@ from collections import defaultdict, deque
 from dataclasses import dataclass, field
 from typing import Any
 
-import standing
 from network import Stream, Wire
 from process import Process, Waiting, answer, state_size
 from servers import Manager, Switchboard
@@ -423,9 +422,6 @@ class World:
         machine = next((machine for machine in self.machines if isinstance(machine.records.get(MANAGER), Here)), None)
         if machine is None:
             self.say("away")
-            return
-        if pid in SERVERS and not standing.SERVERS_MOVE:
-            self.say("pinned", pid)
             return
         child = self.manager.leads_to(pid, machine.number)
         if child is None:

@@ -10,6 +10,7 @@ mod program;
 mod real;
 mod row;
 mod run;
+mod servers;
 mod sized;
 
 use anyhow::{Context, Result};
@@ -19,6 +20,7 @@ use others::{say_errors, step_flat};
 use real::{read_files, write_out};
 use row::Row;
 use run::{Ending, Run};
+use servers::pack_servers;
 use sized::run_large;
 use std::{fs, io};
 
@@ -31,7 +33,8 @@ fn main(rt: HostRuntime) -> Result<()> {
     read_files(&rt)?;
     write_out(&rt)?;
     step_flat(&rt)?;
-    say_errors(&rt)
+    say_errors(&rt)?;
+    pack_servers(&rt)
 }
 
 /// Does the runs of the one table, and says of the rows of the other whether they are shown.

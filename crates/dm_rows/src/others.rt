@@ -82,7 +82,6 @@ pub fn say_errors(rt: &HostRuntime) -> Result<()> {
     };
     say(rt, "room", &lacks)?;
     say(rt, "move", &MoveError::Unknown)?;
-    say(rt, "move", &MoveError::Pinned)?;
     Ok(())
 }
 

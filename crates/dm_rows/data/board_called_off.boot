@@ -1,0 +1,21 @@
+[[machine]]
+slots = 0
+blocks = 0
+[[machine]]
+slots = 0
+blocks = 0
+[[machine]]
+slots = 1
+blocks = 1
+[[image]]
+name = "client"
+blocks = 1
+text = """
+again: sys 6    ; SEND to the switchboard, again and again
+jmp again
+"""
+[[process]]
+name = "client"
+machine = 2
+image = "client"
+links = [{ to = "switchboard" }]
