@@ -2,7 +2,7 @@
 """weigh.py [TOP]: what the law book weighs, in the repository whose top is TOP (default: the folder above this one).
 
 Prints, one a line: lines of proof in the five law crates, lines of proof that import, files that name a kind of message and a
-line of a run that stand for all of their sort (`CallOff`, `Pinned`), lines of definitions behind the clauses of the command `run`
+line of a run that stand for all of their sort (`CallOff`, `Away`), lines of definitions behind the clauses of the command `run`
 and of the whole program (imports, comments and empty lines aren't counted), the rows among them that say nothing, and lemmas that
 nothing reaches; then lemmas whose statement another crate has too, and those of them where one crate stands below the other; then
 lines by crate. Beside lines stand thousands of characters, since a line may be long. Statements are the same if their words are,
@@ -143,7 +143,7 @@ def main():
     laws, used = [m for m in proofs if m.crate in LAWS], imports(proofs)
     print(f"{lines(laws):7}  lines of proof in {', '.join(LAWS)}; {thousands(characters(laws))} characters")
     print(f"{len(used):7}  lines of proof that import; {thousands(sum(len(x) + 1 for x in used))} characters")
-    for word in ("CallOff", "Pinned"):
+    for word in ("CallOff", "Away"):
         print(f"{naming(proofs, word):7}  files of proof that name {word}")
         print(f"{naming(specs, word):7}  files of definitions that name {word}")
     for what, files in CLAUSES.items():
