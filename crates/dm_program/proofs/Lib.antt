@@ -5,6 +5,7 @@ mod LookDecided
 mod Deciding
 mod ByRule
 mod NoWords
+mod Pieces
 mod Sound
 mod RunsChecked
 mod DrillsChecked

@@ -1,6 +1,7 @@
 pub mod Printed
 pub mod Rule
 pub mod Decided
+pub mod Given
 pub mod Program
 pub mod Laws
 pub mod OwnLaws

@@ -2,3 +2,4 @@ pub mod Names
 pub mod CommandWords
 pub mod Given
 pub mod Ranges
+pub mod Usages

@@ -2,4 +2,6 @@
 #![tactic(auto)]
 
 mod look;
+pub mod said;
+pub mod usage;
 pub mod words;

@@ -1,0 +1,19 @@
+-- What is said before the line of a status, of the words that the program was given.
+use Rattle.std.specs.Prelude.{List, ℕ, Vec, String, map, string_bytes}
+use Rattle.std.specs.declared.alloc.Global.{Global}
+use Rattle.std.specs.declared.result.Result.{Result}
+use Rattle.std.specs.declared.result.Result.TheVariants.{Ok, Err}
+use Rattle.dm_ending.specs.declared.status.Status.{Status}
+use Rattle.dm_words.specs.declared.words.WordsError.{WordsError}
+use Rattle.dm_words.specs.declared.words.WordsError.TheVariants as why
+use Rattle.dm_words.specs.Said.{no_pieces, said_pieces, unread_pieces}
+
+-- with none: where a word isn't Unicode that is said
+abbrev pub none_pieces : WordsError → List (List ℕ)
+none_pieces why.Usage = unread_pieces
+none_pieces (why.NoMemory lack) = no_pieces
+
+-- with the words, or with none
+abbrev pub given_pieces : Result (Vec (String Global) Global) WordsError → Status → List (List ℕ)
+given_pieces (Ok words) s = said_pieces (map string_bytes words.items) s
+given_pieces (Err reason) s = none_pieces reason
