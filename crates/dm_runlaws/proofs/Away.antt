@@ -111,11 +111,12 @@ away_while_open b es ls pt p m w valid by e =
     let said : spelled begun (migrates pt p) ≡ Some g.rest = ap (λ (qs : List Part). spelled begun qs) parts ∙ g.said in
     let lines : Line.Head (Step.Migrate p m) ∷ g.rest.lines ≡ w.lines = ap (λ (x : Spelled). x.lines) g.whole in
     let chosen : (c : Bool) → has_seat pt.view ≡ c → migrates pt p ≡ (if c then migrates_to p place else Says Line.Away ∷ []) =
-    λ c is. ap (λ (a : Bool). if a then migrates_to p place else Says Line.Away ∷ []) is in (
-      λ moving.
-          let away = said_away begun g.rest (sym (ap (λ (qs : List Part). spelled begun qs) (chosen false (seat ∙ ap not moving))) ∙ said) in
-          sym lines ∙ ap (λ (xs : List Line). Line.Head (Step.Migrate p m) ∷ xs) away,
+        λ c is. ap (λ (a : Bool). if a then migrates_to p place else Says Line.Away ∷ []) is in
+    (
+      λ open.
+        let away = said_away begun g.rest (sym (ap (λ (qs : List Part). spelled begun qs) (chosen false (seat ∙ ap not open))) ∙ said) in
+        sym lines ∙ ap (λ (xs : List Line). Line.Head (Step.Migrate p m) ∷ xs) away,
       λ closed.
-          let none = quiet_to begun p place g.rest (sym (ap (λ (qs : List Part). spelled begun qs) (chosen true (seat ∙ ap not closed))) ∙ said) in
-          sym (ap (λ (xs : List Line). count is_away_line xs) lines) ∙ ap (λ (n : ℕ). 0 + n) none,
+        let none = quiet_to begun p place g.rest (sym (ap (λ (qs : List Part). spelled begun qs) (chosen true (seat ∙ ap not closed))) ∙ said) in
+        sym (ap (λ (xs : List Line). count is_away_line xs) lines) ∙ ap (λ (n : ℕ). 0 + n) none
     )
