@@ -8,4 +8,6 @@ pub mod ChartWords
 pub mod ExplainWords
 pub mod CountWords
 pub mod LookWords
+pub mod Written
+pub mod ExploreWords
 pub mod Words

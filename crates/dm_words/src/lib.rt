@@ -1,5 +1,7 @@
 //! The words of the command line.
 #![tactic(auto)]
 
+pub mod explore;
 mod look;
 pub mod words;
+mod written;
