@@ -1,6 +1,6 @@
 -- What a run puts and its picture doesn't show is what the picture says it leaves out.
 use Rattle.dm_chart.proofs.Names.{◌≡◌, ◌<◌, ◌≤◌, ℕ, ◌+◌, Bool, true, false, List, [], ◌∷◌, ◌++◌, refl, ap, sym, ◌∙◌, arith, length, ◌&&◌, if◌then◌else◌, flat_map-append, append_assoc}
-use Rattle.dm_chart.proofs.Names.{Line, Letter, Role, Spot, letter_of_role, letters_of, role_of, first_spot, spot_behind}
+use Rattle.dm_chart.proofs.Names.{Pid, Line, Letter, Role, Spot, letter_of_role, letters_of, role_of, first_spot, spot_behind}
 use Rattle.std.proofs.lemmas.Bool.Decides.{nat_tests}
 use Rattle.std.proofs.lemmas.List.Sums.{sum_by-cons}
 use Rattle.std.proofs.Common.{cond, length-append, nat_lt, ◌^◌, not, fold, ◌==◌}

@@ -1,6 +1,6 @@
 //! The whole picture.
-ghost use Rattle.std.specs.Prelude.{◌≡◌, ◌≤◌, ◌-◌, ◌++◌, IfOk, OnOk, codes, length, map, option_to_list};
-ghost use Rattle.std.specs.List.{flat_map};
+ghost use Rattle.std.specs.Prelude.{◌≡◌, ◌≤◌, ◌-◌, [], ◌∷◌, ◌++◌, IfOk, OnOk, codes, length, map, option_to_list};
+ghost use Rattle.std.specs.List.{concat, flat_map};
 ghost use Rattle.dm_chart.specs.Drawn.{all_drawn};
 ghost use Rattle.dm_chart.specs.Picture.{bars_line, boot_pids, extent, foot, foot_line, frame_of, made_in, made_with, picture_head, picture_in, picture_of, processes_in, reach_line, sheet, title};
 ghost use Rattle.dm_chart.specs.Roles.{role_of};

@@ -1,5 +1,5 @@
 //! Where things stand in a picture, in units of the picture.
-ghost use Rattle.std.specs.Prelude.{◌≡◌, ◌≤◌, position};
+ghost use Rattle.std.specs.Prelude.{◌≡◌, ◌≤◌, IfSome, position};
 ghost use Rattle.dm_link.specs.Names.{pid_eq};
 ghost use Rattle.dm_chart.specs.Measures.{at_least_legend, axis, beside, breadth, column, few, height, lane_at, lane_of, number_shown, on_axis, on_lane, towards};
 

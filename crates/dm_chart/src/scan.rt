@@ -1,9 +1,10 @@
 //! What the lines ahead and behind tell of a line.
 ghost use Rattle.std.specs.Prelude.{◌≡◌, ◌++◌, IfOk, OnOk, option_to_list};
+ghost use Rattle.std.specs.List.{count_by, flat_map, list_any};
 ghost use Rattle.dm_link.specs.Names.{pid_eq};
 ghost use Rattle.dm_message.specs.Ids.{id_eq};
 ghost use Rattle.dm_chart.specs.Ahead.{first_ahead, is_delivery, is_end, is_restart, is_taken, is_wanted};
-ghost use Rattle.dm_chart.specs.Behind.{kill_in, kill_with, kills_of, letter_last, message_is_among, news_behind, news_here, news_of, number_among, puts_between, puts_id, puts_it, was_put};
+ghost use Rattle.dm_chart.specs.Behind.{kill_in, kill_with, kills_of, letter_last, message_is_among, news_behind, news_from, news_here, news_of, number_among, puts_between, puts_id, puts_it, was_put};
 
 use crate::role::{Letter, Life, Role, role_of};
 use crate::spot::{Spot, next_spot};

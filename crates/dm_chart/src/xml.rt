@@ -1,5 +1,5 @@
 //! Writing the elements of a document.
-ghost use Rattle.std.specs.Prelude.{◌≡◌, ◌++◌, OnOk, map};
+ghost use Rattle.std.specs.Prelude.{◌≡◌, ◌++◌, OnOk, codes, map};
 ghost use Rattle.std.specs.List.{concat};
 ghost use Rattle.dm_text.specs.Written.{word_text};
 ghost use Rattle.dm_chart.specs.Xml.{alone, attribute, attributes, closing, element_around, opening_tag};

@@ -1,9 +1,15 @@
 -- The lines of what is in a message, part by part.
-use Rattle.dm_text.proofs.Names.{◌≡◌, ℕ, zero, suc, ◌+◌, ◌<◌, ◌≤◌, List, [], ◌∷◌, ◌++◌, length, get_or, refl, ap, sym, ◌∙◌, append_assoc, append-nil, arith, codes, spaced}
-use Rattle.std.specs.Prelude.{drop}
+use Rattle.dm_text.proofs.Names.{◌≡◌, ℕ, zero, suc, ◌+◌, ◌<◌, ◌≤◌, List, [], ◌∷◌, ◌++◌, length, get_or, refl, ap, sym, ◌∙◌, append_assoc, append-nil, arith, codes, None, Some, spaced}
+use Rattle.std.specs.Prelude.{drop, option_map}
 use Rattle.dm_link.specs.declared.Link.{Link}
+use Rattle.dm_message.specs.declared.Message.{Message}
 use Rattle.dm_message.specs.declared.MsgId.{MsgId}
-use Rattle.dm_look.specs.LetterText.{carried_text, carries_words}
+use Rattle.dm_message.specs.declared.What.{What}
+use Rattle.dm_message.specs.Plain.{PlainWhat, plain_what}
+use Rattle.dm_look.specs.Letters.{Letter, letter_of, links_in}
+use Rattle.dm_message.specs.Kinds.{kind_of, plain_kind, word_of}
+use Rattle.dm_look.specs.LetterText.{carried_text, carries_words, content_words, letter_text, text_of_letter, what_words}
+use Rattle.dm_text.specs.Words.{id_word, pid_word}
 use Rattle.dm_text.specs.Text.{spelled_line}
 use Rattle.std.proofs.Math.ListN.{drop_of_length-le}
 use Rattle.dm_text.proofs.Spacing.{spaced-append}

@@ -1,9 +1,10 @@
 //! The first groups of a run.
-ghost use Rattle.std.specs.Prelude.{◌≤◌, length};
+ghost use Rattle.std.specs.Prelude.{◌≡◌, ◌≤◌, length};
 ghost use Rattle.std.specs.List.{All};
 ghost use Rattle.dm_run.specs.Runs.{IsFor};
 ghost use Rattle.dm_run.specs.Running.{IsAtStart};
 ghost use Rattle.dm_run.specs.Went.{RunsGo};
+ghost use Rattle.dm_world.specs.Meets.{world_state};
 ghost use Rattle.dm_look.specs.Groups.{Came};
 
 use dm_line::line::Line;

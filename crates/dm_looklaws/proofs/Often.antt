@@ -1,5 +1,5 @@
 -- How often a name stands in lists that are joined.
-use Rattle.std.proofs.Common.{◌≡◌, ◌≢◌, ℕ, zero, suc, ◌<◌, ◌≤◌, List, refl, sym, subst, inl, inr, arith}
+use Rattle.std.proofs.Common.{◌≡◌, ◌≢◌, ℕ, zero, suc, ◌<◌, ◌≤◌, List, ◌++◌, refl, sym, subst, inl, inr, arith}
 use Rattle.dm_line.specs.Each.{joined_below}
 use Rattle.dm_message.specs.declared.MsgId.{MsgId}
 use Rattle.dm_rule.specs.Spots.{times}

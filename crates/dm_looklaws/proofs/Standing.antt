@@ -1,6 +1,6 @@
 -- The messages that wait by the machines are those that the printed lists name.
 use Rattle.std.proofs.Common.{◌≡◌, ◌≢◌, ℕ, zero, suc, ◌+◌, ◌-◌, ◌==◌, ◌<◌, Bool, true, false, if◌then◌else◌, List, [], ◌++◌, map, drop, refl, ap, ap₂, sym, ◌∙◌, inl, inr, arith}
-use Rattle.std.proofs.lemmas.List.{append-nil}
+use Rattle.std.proofs.lemmas.List.{append-nil, map-append}
 use Rattle.std.specs.declared.option.Option.{Option}
 use Rattle.std.specs.declared.option.Option.TheVariants.{None, Some}
 use Rattle.dm_link.specs.declared.Pid.{Pid}
@@ -27,7 +27,6 @@ use Rattle.dm_look.specs.Waiting.{given_by, given_on, kept_at, kept_for, kept_of
 use Rattle.dm_looklaws.proofs.Spots.{all_ids, ids_at_machine, ids_given, ids_given_by, ids_kept, ids_kept_at, ids_of_home, ids_of_homes, ids_of_servers}
 use Rattle.dm_mirror.proofs.Leave.Stays.{messages_append}
 
--- lists of machines, one behind another
 joined_are : (bag : MsgId → Option Message) (f : ℕ → List MsgId) (g : ℕ → List Message) (n : ℕ) → ((k : ℕ) → k < n → AreMessages bag (f k) (g k)) → AreMessages bag (joined_below f n) (joined_below g n)
 joined_are bag f g zero each = refl
 joined_are bag f g (suc n) each = messages_append bag (joined_below f n) (f n) (joined_below g n) (g n) (joined_are bag f g n (λ k h. each k (omega (arith, h)))) (each n (omega arith))

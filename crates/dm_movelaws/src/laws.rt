@@ -33,23 +33,23 @@ pub fn trails_always()
 
 /// Wherever the rule leads from a boot file, the lines lay a trail for each process: the machines that it has been on, in order. Each
 /// place that a link, a message, a data move, a list of a server's, an update or a forwarding address names for a process is on its
-/// trail, which begins at home, where a kernel stays, and ends where the process is, leaves or comes, if it lives. From each place of it
-/// the forwarding addresses lead there, or, if it has ended, to a machine without a record of it: each with a higher count, in fewer
-/// steps than there are machines.
+/// trail, which begins at home, where a kernel or a server stays, and ends where the process is, leaves or comes, if it lives. From each
+/// place of it the forwarding addresses lead there, or, if it has ended, to a machine without a record of it: each with a higher count,
+/// in fewer steps than there are machines.
 pub fn trails_stand()
     ensures { TrailsStand }
 {}
 
 /// Wherever the rule leads from a boot file, from each place that a link, a message, a data move, a list of a server's, an update or a
 /// forwarding address names for a process, the forwarding addresses lead to the process, or, if it has ended, to a machine without a
-/// record of it: each with a higher count, in fewer steps than there are machines. Whoever is named is a kernel, at home, a server, or a
-/// process that was made.
+/// record of it: each with a higher count, in fewer steps than there are machines. Whoever is named is a kernel or a server, at home,
+/// or a process that was made.
 pub fn addresses_lead()
     ensures { AddressesLead }
 {}
 
 /// Wherever the rule leads from a boot file, messages are queued only where a process is or leaves, and held back only where it leaves
-/// or comes: none waits where a process has ended or isn't. For a server none is queued; some may be held back.
+/// or comes: none waits where a process has ended or isn't, and none for a server.
 pub fn lists_always()
     ensures { ListsAlways }
 {}
@@ -87,7 +87,7 @@ pub fn predecessors_always()
 {}
 
 /// Wherever the rule leads from a boot file, where all messages that were routed are taken, and acknowledged between different
-/// machines, and all inboxes are empty: each living process and each server is on one machine and none moves, no message is held back, each
+/// machines, and all inboxes are empty: each living process is on one machine and none moves, no message is held back, each
 /// message that there is waits in the queue of the process that it is for, no machine has a record of a process that has ended, and no
 /// kernel's own message stands anywhere. So each request to move has come to its end.
 pub fn at_rest_always()
@@ -95,16 +95,15 @@ pub fn at_rest_always()
 {}
 
 /// Wherever the rule leads from a boot file, directives to move a process have come to no more ends than there were directives, and
-/// to as many where nothing is on its way between machines, of those that found the manager here: it has no such child, the process was
-/// there already, had ended, moved, or stays. An end that is followed by the answer to a request of a process's is the end of that
-/// request.
+/// to as many where nothing is on its way between machines: the manager has no such child, it is a server, it was there already, had
+/// ended, moved, or stays. An end that is followed by the answer to a request of a process's is the end of that request.
 pub fn ends_always()
     ensures { EndsAlways }
 {}
 
 /// From any point on, as long as no step of the kernel without machines gives an address anew that a process or a server has,
-/// in a slot, as the owner in a data move, to a child or the switchboard, under a name or for an answer, its count doesn't fall:
-/// neither forwards nor migrations change it, and an update only raises it.
+/// in a slot, as the owner in a data move, to a child, under a name or for an answer, its count doesn't fall: neither forwards
+/// nor migrations change it, and an update only raises it.
 pub fn counts_stay()
     ensures { CountsStay }
 {}
@@ -128,9 +127,9 @@ pub fn open_moves()
     ensures { OpenMoves }
 {}
 
-/// Wherever the rule leads from a boot file: as long as the line of step 1 of a process or a server is followed by no step 8 and no
-/// `stays` of it, no ran, call, send, wait, out, end, receive, refuse, served or took of the next group is its own, no message for it
-/// is dropped, and its plain value stays.
+/// Wherever the rule leads from a boot file: as long as a process's line of step 1 is followed by no step 8 and no `stays` of it,
+/// no ran, call, send, wait, out, end, receive, refuse or served of the next group is that process's, no message for it is
+/// dropped, and its plain value stays.
 pub fn open_spares()
     ensures { OpenSpares }
 {}

@@ -3,8 +3,8 @@ ghost use Rattle.dm_places.specs.Changes.{StepsChangeLittle};
 ghost use Rattle.dm_places.specs.Laws.{StepsFollow, LinesKeep, StartMirrors, PointDetermines};
 
 /// Each step of the kernel without machines is one with places, by the functions of the machines' code, and its places are
-/// the addresses that the line of the step gives: a process that is made hasn't moved yet, and the manager's
-/// requests have ascending numbers.
+/// the addresses that the line of the step gives: a process that is made hasn't moved yet, and the servers act on machine 0,
+/// where the manager's requests have ascending numbers.
 pub fn steps_follow()
     ensures { StepsFollow }
 {}

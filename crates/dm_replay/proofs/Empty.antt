@@ -102,7 +102,7 @@ pub record IsEmpty (b : Boot) (k : Kernel) : Type 0 where
   pub bag : (i : MsgId) → held k.bag i ≡ None
   pub notes : k.notes.entries ≡ []
   pub noted : (i : MsgId) → held k.noted i ≡ None
-  pub board : k.board ≡ record { names = []; sent = 0; moves = 0 }
+  pub board : k.board ≡ record { names = []; sent = 0 }
   pub manager : k.manager ≡ starting b
 
 pub state_empty : (b : Boot) (k : Kernel) → IsEmpty b k → one_kernel b k ≡ started b []

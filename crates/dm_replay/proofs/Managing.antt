@@ -97,7 +97,7 @@ some_is e = cc
 
 created_keeps : (here : ℕ) (g : Managing) (n : ℕ) (child : Pid) (o : Option Pending) (t : Taken) → takes_created here g n child o ≡ Some t → Keeps g t
 created_keeps here g n child None t e = absurd (cc)
-created_keeps here g n child (Some r) t e = subst (Keeps g) (some_is e) (created_over here g n child r.answer (control_link here g.moves (length g.children + 1) ∷ []))
+created_keeps here g n child (Some r) t e = subst (Keeps g) (some_is e) (created_over here g n child r.answer (control_link here (length g.children + 1) ∷ []))
 
 no_room_keeps : (here : ℕ) (g : Managing) (n : ℕ) (o : Option Pending) (t : Taken) → takes_no_room here g n o ≡ Some t → Keeps g t
 no_room_keeps here g n None t e = absurd (cc)

@@ -1,5 +1,4 @@
--- Lines that are not of a process or a server: it doesn't run, call, send, wait, print, end or receive, and no message for it is served or
--- taken.
+-- Lines that are not of a process: it doesn't run, call, send, wait, print, end or receive, and no message for it is served.
 use Rattle.std.specs.Prelude.{◌≡◌, ◌≢◌, ⊤, List, [], ◌∷◌}
 use Rattle.std.specs.declared.option.Option.{Option}
 use Rattle.std.specs.declared.option.Option.TheVariants.{None, Some}
@@ -11,7 +10,7 @@ use Rattle.dm_onekernel.specs.Kernel.{OneKernel}
 use Rattle.dm_line.specs.declared.line.Line.{Line}
 use Rattle.dm_rule.specs.Point.{label_of}
 
--- a row a label; what is served, taken or asked for is in the bag as its group begins, and this kernel is the one there
+-- a row a label; what is served is in the bag as its group begins, and this kernel is the one there
 abbrev pub IsOthers : OneKernel → Pid → Label → Type 0
 IsOthers s p (label.Ran q k) = q ≢ p
 IsOthers s p (label.Call q n c) = q ≢ p
@@ -24,7 +23,7 @@ IsOthers s p (label.Refuse q id c) = q ≢ p
 IsOthers s p (label.Dropped id) = ⊤
 IsOthers s p (label.Served id) = (m : PlainMessage) → s.bag id ≡ Some m → m.to ≢ p
 IsOthers s p (label.Gone id) = ⊤
-IsOthers s p (label.Took id) = (m : PlainMessage) → s.bag id ≡ Some m → m.to ≢ p
+IsOthers s p (label.Took id) = ⊤
 IsOthers s p (label.Created id q) = q ≢ p
 IsOthers s p (label.NoSpace id a b) = ⊤
 IsOthers s p (label.Asked id) = (m : PlainMessage) → s.bag id ≡ Some m → m.to ≢ p

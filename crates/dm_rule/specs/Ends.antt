@@ -97,11 +97,10 @@ homes_with pt f n = joined_below (λ home. home_with f home (pt.kernel.made home
 abbrev pub is_moved : Stood → Bool
 is_moved s = not ((s.at == 0) && stands_here s.standing)
 
--- where a server stands, unless it is here on machine 0
+-- how many messages a server has sent, and where it stands, unless it is here on machine 0
 abbrev pub place_line : Pid → Stood → List EndLine
 place_line p s = if is_moved s then end.Place p s.at s.standing ∷ [] else []
 
--- how many messages it has sent, and where it stands
 abbrev pub sent_lines : Pid → ℕ → Option Stood → List EndLine
 sent_lines p sent found = end.Server p sent ∷ option_map_or (place_line p) found []
 

@@ -96,8 +96,8 @@ PhasesAlways = (b : Boot) (es : List Step) (pt : Point) (p : Pid) → IsValid b 
 abbrev pub KernelsInOrderAlways : Type 0
 KernelsInOrderAlways = (b : Boot) (es : List Step) (pt : Point) → IsValid b → Leads b (first_point b) es pt → KernelsInOrder pt.view
 
--- wherever the rule leads, the next group has no label of a process that moves, and leaves its plain value; and so of a server that
--- moves, for which it takes no message
+-- wherever the rule leads, the next group has no label of a process that moves, and leaves its plain value; and that of a server that
+-- moves, of which it takes no message
 abbrev pub MovingStaysAlways : Type 0
 MovingStaysAlways =
     (b : Boot) (es : List Step) (pt : Point) (d : Step) (w : Spelled) (p : Pid) (k : MessageKind) (source destination : ℕ) (id : Option MsgId) → IsValid b → Leads b (first_point b) es pt → group_of b pt d ≡ Some w

@@ -40,11 +40,9 @@ pub data Phase : Type 0 where
 
 -- a machine has a process or a server, or holds it back
 abbrev pub has_it : Known → Bool
-has_it Unknown = false
 has_it Here = true
 has_it (Frozen to) = true
-has_it (Incoming from) = false
-has_it (Forward at moves) = false
+has_it k = false
 
 -- a process isn't on this machine: it knows nothing of it, or only where it went
 abbrev pub is_away : Known → Bool

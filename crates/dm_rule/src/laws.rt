@@ -42,8 +42,8 @@ pub fn kernels_in_order_always()
     ensures { KernelsInOrderAlways }
 {}
 
-/// Wherever the rule leads from a boot file, while a process or a server moves no group has a label of it: it doesn't run, call, send,
-/// wait, print, end or receive, no message for it is served or taken, and its plain value stays as it is.
+/// Wherever the rule leads from a boot file, while a process moves no group has a label of it: it doesn't run, call, send, wait,
+/// print, end or receive, no message for it is served, and its plain value stays as it is.
 pub fn moving_stays_always()
     ensures { MovingStaysAlways }
 {}

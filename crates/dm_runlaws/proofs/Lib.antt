@@ -11,4 +11,3 @@ pub mod Worked
 pub mod Packets
 pub mod SettleFew
 pub mod Leading
-pub mod Away

@@ -3,4 +3,3 @@ pub mod Through
 pub mod Packets
 pub mod Settling
 pub mod Leading
-pub mod Away

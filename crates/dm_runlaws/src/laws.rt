@@ -1,5 +1,4 @@
 //! What holds of good groups for the directives of a schedule.
-ghost use Rattle.dm_runlaws.specs.Away.{AwayWhileOpen};
 ghost use Rattle.dm_runlaws.specs.Leading.{GoodIsOfRule};
 ghost use Rattle.dm_runlaws.specs.Order.{GoodInOrder};
 ghost use Rattle.dm_runlaws.specs.Packets.{PacketsAgree, PacketsSpell};
@@ -54,10 +53,4 @@ pub fn settle_few()
 /// it follows; where something is, it goes on as one that has begun (`dm_settlelaws::laws::settles_always`).
 pub fn settles_from_start()
     ensures { SettlesFromStart }
-{}
-
-/// Wherever the rule leads from a boot file: as long as by the printed lines a migration of the process manager is open, from its step 1
-/// to its step 8 or `stays`, a directive to move does nothing but say `away`; and where none is, it never says so.
-pub fn away_while_open()
-    ensures { AwayWhileOpen }
 {}

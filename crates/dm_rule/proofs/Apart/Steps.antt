@@ -101,7 +101,7 @@ Avoids s p None = ⊤
 Avoids s p (Some l) = IsAnothers s p l
 
 others_of : (s : OneKernel) (p : Pid) (l : Label) → IsAnothers s p l → IsOthers s p l
-others_of s p (Label.Took id) h = h
+others_of s p (Label.Took id) h = tt
 others_of s p _ h = h
 
 pub spares_of : (s : OneKernel) (p : Pid) (o : Option Label) → Avoids s p o → Spares s p o

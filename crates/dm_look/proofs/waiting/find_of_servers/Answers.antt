@@ -1,4 +1,4 @@
-use Rattle.dm_world.proofs.Names.{◌++◌, NodeState, ap, ◌∙◌, world_state}
+use Rattle.dm_world.proofs.Names.{◌≡◌, ◌++◌, List, Message, NodeState, ap, ◌∙◌, world_state}
 use Rattle.dm_onekernel.specs.Boot.{manager, switchboard}
 use Rattle.std.specs.Prelude.{map}
 use Rattle.dm_look.specs.Waiting.{kept_for}
