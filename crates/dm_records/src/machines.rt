@@ -1,5 +1,5 @@
 //! Sets of machines.
-ghost use Rattle.std.specs.Prelude.{◌≡◌, ℕ, ◌<◌, ◌==◌, ◌||◌, false, length};
+ghost use Rattle.std.specs.Prelude.{◌≡◌, ℕ, ◌<◌, ◌==◌, ◌&&◌, ◌||◌, false, length, not, true};
 ghost use Rattle.dm_records.specs.Machines.{has, machines_with};
 
 use dm_link::MACHINES;
@@ -47,5 +47,22 @@ impl Machines {
         Machines {
             bits: self.bits | 1 << machine,
         }
+    }
+
+    /// The same machines without one.
+    pub fn without(self, machine: u8) -> Machines
+        requires { machine < MACHINES }
+        ensures { (n : ℕ) → n < MACHINES → has result n ≡ not (machine == n) && has self n }
+    {
+        Machines {
+            bits: self.bits & !(1 << machine),
+        }
+    }
+
+    /// Whether there are none.
+    pub fn is_empty(self) -> bool
+        ensures { result ≡ true → (n : ℕ) → has self n ≡ false }
+    {
+        self.bits == 0
     }
 }

@@ -96,7 +96,7 @@ fn board_is_packed(alloc: Global, board: &Switchboard) -> bool {
 fn say_manager(rt: &HostRuntime) -> io::Result<()> {
     match ProcMan::unpack(rt.alloc(), &MANAGER, MACHINES, IMAGES) {
         Ok(manager) => {
-            let (children, requests) = (manager.children().len(), manager.pending().len());
+            let (children, requests) = (manager.children().len(), manager.waiting());
             let (sent, moves) = (manager.sent(), manager.moves());
             let same = manager_is_packed(rt.alloc(), &manager);
             println!(rt; "manager: {children} children, {requests} requests, {sent} sent, {moves} moves, packed to the same bytes: {same}")
@@ -107,7 +107,7 @@ fn say_manager(rt: &HostRuntime) -> io::Result<()> {
 
 /// Whether a manager of few children and requests is packed to the worked bytes.
 fn manager_is_packed(alloc: Global, manager: &ProcMan) -> bool {
-    if manager.children().len() > 2 || manager.pending().len() > 2 {
+    if manager.children().len() > 2 || manager.waiting() > 2 {
         return false;
     }
     match manager.pack(alloc) {

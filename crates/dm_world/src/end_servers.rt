@@ -196,7 +196,8 @@ fn say_lists(resident: &Resident, lines: &mut Vec<EndLine>) -> Result<(), NoMemo
         Resident::Board(board) => say_names(board, lines),
         Resident::Manager(manager) => {
             say_children(manager.children(), lines)?;
-            say_pending(manager.pending(), lines)?;
+            let pending = manager.pending()?;
+            say_pending(pending.as_slice(), lines)?;
             Ok(())
         }
     }
