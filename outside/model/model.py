@@ -18,7 +18,6 @@ sys.dont_write_bytecode = True
 
 import boot as boot_file
 import check as trace_check
-import saying
 import schedule as schedule_file
 from counting import Counts, quiet_line
 from drill import directives_of, drawn_boot, drill
@@ -34,13 +33,12 @@ LONGEST = 16_777_216  # a schedule or a trace
 
 
 class Stop(Exception):
-    """A status and its line, and where it is about a file what is said before that."""
+    """A status and its line."""
 
-    def __init__(self, status, line, before=()):
+    def __init__(self, status, line):
         super().__init__(line)
         self.status = status
         self.line = line
-        self.before = list(before)
 
 
 def options_of(words, wanted, *flags):
@@ -73,9 +71,9 @@ def bytes_of(name, most, kind):
         with open(name, "rb") as file:
             data = file.read(most + 1)
     except (OSError, ValueError):
-        raise Stop(3, "read fault", saying.of_file(name)) from None
+        raise Stop(3, "read fault") from None
     if len(data) > most:
-        raise Stop(8, f"too long: {kind}", saying.of_file(name, most))
+        raise Stop(8, f"too long: {kind}")
     return data
 
 
@@ -167,17 +165,14 @@ def do_look(words, write):
 COMMANDS = {"run": do_run, "check": do_check, "explain": do_explain, "drill": do_drill, "count": do_count, "look": do_look}
 
 
-def run(words, write, before=None):
-    """Does what the words say, and gives each piece of text to `write`: the status, and the last line on standard error. The lines
-    that stand before that go into `before`."""
+def run(words, write):
+    """Does what the words say, and gives each piece of text to `write`: the status, and the line on standard error."""
     try:
         if words[:1] == [] or words[0] not in COMMANDS:
             raise Stop(2, USAGE)
         COMMANDS[words[0]](words[1:], lambda lines: write(text(lines)))
         return 0, ""
     except Stop as stop:
-        if before is not None:
-            before += saying.of_words(words) if stop.status == 2 else stop.before
         return stop.status, stop.line
     except boot_file.Refused as refused:
         return 6, str(refused)
@@ -206,16 +201,15 @@ def main():
         words = [word.encode("utf-8").decode("utf-8") for word in sys.argv[1:]]
     except UnicodeEncodeError:
         words = []
-    before = []
-    status, line = run(words, write_out, before)
+    status, line = run(words, write_out)
     try:
         if sys.stdout is not None:
             sys.stdout.flush()
     except OSError:
-        status, line, before = 5, "write fault", []
+        status, line = 5, "write fault"
         sys.stdout = None
-    for said in [*before, line] if line else []:
-        print(said, file=sys.stderr)
+    if line:
+        print(line, file=sys.stderr)
     sys.exit(status)
 
 

@@ -1,5 +1,5 @@
 -- Which operand of a line of an image's text is refused, and what it must be.
-use Rattle.std.specs.Prelude.{ℕ, ◌+◌, ◌-◌, ◌==◌, ◌&&◌, not, nat_le, take, slice_index, Bool, true, false, if◌then◌else◌, codes, List, [], ◌∷◌, ◌++◌, Option, None, Some, Result, Ok, Err, length}
+use Rattle.std.specs.Prelude.{ℕ, ◌+◌, nat_le, Bool, true, false, if◌then◌else◌, codes, List, [], ◌∷◌, ◌++◌, Option, None, Some, Result, Ok, Err, length}
 use Rattle.std.specs.Option.{is_some, option_map}
 use Rattle.std.specs.List.{concat}
 use Rattle.std.specs.Fmt.{decimal}
@@ -12,7 +12,7 @@ use Rattle.dm_asm.specs.declared.refusals.Why.{Why}
 use Rattle.dm_asm.specs.declared.refusals.Why.TheVariants.{UnknownWord, BadRegister, BadNumber, OutOfRange, UnknownLabel, LabelTwice, OperandCount, TooLong}
 use Rattle.dm_asm.specs.Forms.{form_of, shape_of}
 use Rattle.dm_asm.specs.Lines.{without_comment}
-use Rattle.dm_asm.specs.Numbers.{is_label_name, literal_value, register_of}
+use Rattle.dm_asm.specs.Numbers.{literal_value, register_of}
 use Rattle.dm_asm.specs.Operands.{wanted_number}
 use Rattle.dm_explain.specs.declared.source.Last.{Last}
 use Rattle.dm_explain.specs.declared.source.Last.TheVariants as last
@@ -176,40 +176,6 @@ why_words LabelTwice s = codes "an earlier line has this label"
 why_words OperandCount s = codes "more or fewer operands than the word has"
 why_words TooLong s = codes "the image has more than 65536 bytes with this line"
 
--- a word that ends as a label does, and is none
-abbrev pub is_no_label : List ℕ → Bool
-is_no_label w = (slice_index w (length w - 1) == 58) && not (is_label_name (take (length w - 1) w))
-
-abbrev pub no_label_told : List ℕ → List ℕ
-no_label_told w = concat (codes ": " ∷ quoted w ∷ codes " is no label, which has 1 to 16 of a to z, 0 to 9 and _, the first no digit" ∷ [])
-
--- the first of some words, where it is such a word
-abbrev pub no_label_in : List (List ℕ) → Option (List ℕ)
-no_label_in [] = None
-no_label_in (w ∷ ws) = if is_no_label w then Some w else None
-
-unfoldable pub no_label : List ℕ → Option (List ℕ)
-no_label line = no_label_in (source_words (without_comment line))
-
-abbrev pub label_told : Option (List ℕ) → List ℕ
-label_told None = []
-label_told (Some w) = no_label_told w
-
--- a line without a word that there is
-abbrev pub unknown_told : List ℕ → List ℕ
-unknown_told line = said (codes "no such word") line ++ label_told (no_label line)
-
--- a line with a word that there is
-abbrev pub known_told : Why → Option Source → List ℕ → List ℕ
-known_told why s line = said (why_words why s) line ++ detail why s
-
 -- a line that is refused, and what is wrong there
 abbrev pub refused_told : Why → Option Source → List ℕ → List ℕ
-refused_told UnknownWord s line = unknown_told line
-refused_told BadRegister s line = known_told BadRegister s line
-refused_told BadNumber s line = known_told BadNumber s line
-refused_told OutOfRange s line = known_told OutOfRange s line
-refused_told UnknownLabel s line = known_told UnknownLabel s line
-refused_told LabelTwice s line = known_told LabelTwice s line
-refused_told OperandCount s line = known_told OperandCount s line
-refused_told TooLong s line = known_told TooLong s line
+refused_told why s line = said (why_words why s) line ++ detail why s

@@ -12,7 +12,6 @@ use Rattle.dm_explain.specs.declared.explain.BootTold.{BootTold}
 use Rattle.dm_explain.specs.declared.explain.BootTold.TheVariants as boot
 use Rattle.dm_explain.specs.declared.explain.ScheduleTold.{ScheduleTold}
 use Rattle.dm_explain.specs.declared.explain.ScheduleTold.TheVariants as schedule
-use Rattle.dm_explain.specs.Parts.{quoted}
 use Rattle.dm_explain.specs.Schedules.{directives_told, line_told}
 use Rattle.dm_explain.specs.SystemParts.{told_with_parts}
 use Rattle.dm_explain.specs.Told.{broken_told}
@@ -21,22 +20,21 @@ use Rattle.dm_explain.specs.Told.{broken_told}
 abbrev pub line_behind : List ℕ → ℕ
 line_behind before = count_by (λ c. c == 10) before + 1
 
--- what is said of bytes that are no document: the line, where the reader says one, and its reason
-abbrev pub unread_told : Option ℕ → List ℕ → List ℕ
-unread_told None reason = codes "rule 1: no document\n"
-unread_told (Some line) reason = concat (codes "rule 1: no document, as line " ∷ decimal line ∷ codes " shows: " ∷ quoted reason ∷ codes "\n" ∷ [])
+-- what is said of bytes that are no document: the line, where the reader says one
+abbrev pub unread_told : Option ℕ → List ℕ
+unread_told None = codes "rule 1: no document\n"
+unread_told (Some line) = concat (codes "rule 1: no document, as line " ∷ decimal line ∷ codes " shows\n" ∷ [])
 
 -- the line of a place of these bytes; which place that is, is for the reader to say
 abbrev pub IsLineSaid : List ℕ → Option ℕ → Type 0
 IsLineSaid bytes None = ⊤
 IsLineSaid bytes (Some line) = (place : ℕ) × (place ≤ length bytes) × (line ≡ line_behind (take place bytes))
 
--- bytes that are no document; which reason that is, is for the reader to say
+-- bytes that are no document
 pub record TellsUnread (bytes text : List ℕ) : Type 0 where
   pub line : Option ℕ
-  pub reason : List ℕ
   pub is : IsLineSaid bytes line
-  pub said : text ≡ unread_told line reason
+  pub said : text ≡ unread_told line
 
 -- a document, if there is one, that breaks a rule
 abbrev pub TellsBroken : List ℕ → Option Members → BootRule → ℕ → List ℕ → Type 0

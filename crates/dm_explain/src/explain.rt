@@ -14,8 +14,8 @@ use crate::system::put_system;
 use crate::system_parts::put_system_parts;
 use crate::told::put_broken;
 use dm_boot::{BootError, BootRule, read_boot};
+use dm_memory::NoMemory;
 use dm_memory::of_toml::{DocumentError, table_from_slice};
-use dm_memory::{NoMemory, from_slice};
 use dm_onekernel::Boot;
 use dm_schedule::{Directive, LineFault, ScheduleError, read_schedule};
 use std::alloc::Global;
@@ -52,13 +52,6 @@ pub enum ScheduleTold {
         fault: LineFault,
         text: Vec<u8>,
     },
-}
-
-/// Why a file isn't a document: the line at which the reader says so, and its reason.
-#[derive(Drop)]
-struct Unread {
-    line: Option<u64>,
-    reason: Vec<u8>,
 }
 
 /// Says what a boot file says, or which rule it breaks.
@@ -119,9 +112,8 @@ fn explain_unread(alloc: Global, bytes: &[u8]) -> Result<BootTold, NoMemory>
     ensures explains { IfOk result (λ told. ExplainsBoot bytes.now told) }
     ensures valid { IfOk result IsToldValid }
 {
-    let unread = why_unread(alloc, bytes)?;
     let mut text = Vec::new(alloc);
-    put_unread(&mut text, unread.line, unread.reason.as_slice())?;
+    put_unread(&mut text, unread_line(alloc, bytes))?;
     Ok(BootTold::Refused {
         rule: BootRule::Document,
         place: 0,
@@ -129,23 +121,14 @@ fn explain_unread(alloc: Global, bytes: &[u8]) -> Result<BootTold, NoMemory>
     })
 }
 
-/// The line at which the reader says that a file isn't a document, and why; no line where it doesn't, as it reads once more for this
+/// The line at which the reader says that a file isn't a document; none where it doesn't, as it reads once more for this
 /// and may lack memory.
-fn why_unread(alloc: Global, bytes: &[u8]) -> Result<Unread, NoMemory>
-    ensures { IfOk result (λ u. IsLineSaid bytes.now u.line) }
+fn unread_line(alloc: Global, bytes: &[u8]) -> Option<u64>
+    ensures { IsLineSaid bytes.now result }
 {
     match toml::table_from_slice(alloc, bytes) {
-        Ok(_) => Ok(Unread {
-            line: None,
-            reason: Vec::new(alloc),
-        }),
-        Err(why) => {
-            let reason = from_slice(alloc, why.message().as_bytes())?;
-            Ok(Unread {
-                line: line_said(bytes, &why),
-                reason,
-            })
-        }
+        Ok(_) => None,
+        Err(why) => line_said(bytes, &why),
     }
 }
 
@@ -173,9 +156,9 @@ fn line_behind(before: &[u8]) -> u64
     count
 }
 
-/// Writes that a file isn't a document, at which line that shows, and why.
-fn put_unread(into: &mut Vec<u8>, line: Option<u64>, reason: &[u8]) -> Result<(), NoMemory>
-    ensures { OnOk result (into.new.items ≡ into.old.items ++ unread_told line reason.now) }
+/// Writes that a file isn't a document, and at which line that shows.
+fn put_unread(into: &mut Vec<u8>, line: Option<u64>) -> Result<(), NoMemory>
+    ensures { OnOk result (into.new.items ≡ into.old.items ++ unread_told line) }
 {
     match line {
         Some(line) => put_parts(
@@ -183,9 +166,7 @@ fn put_unread(into: &mut Vec<u8>, line: Option<u64>, reason: &[u8]) -> Result<()
             &[
                 Part::Text("rule 1: no document, as line "),
                 Part::Count(line),
-                Part::Text(" shows: "),
-                Part::Line(reason),
-                Part::Text("\n"),
+                Part::Text(" shows\n"),
             ],
         ),
         None => put(into, "rule 1: no document\n"),

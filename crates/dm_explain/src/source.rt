@@ -1,15 +1,15 @@
 //! Which operand of a line of an image's text is refused.
-ghost use Rattle.std.specs.Prelude.{◌≡◌, ◌<◌, ◌^◌, length, min, option_copied, option_map};
-ghost use Rattle.std.specs.List.{find, list_all, position};
+ghost use Rattle.std.specs.Prelude.{◌≡◌, ◌^◌, min, option_map};
+ghost use Rattle.std.specs.List.{find, position};
 ghost use Rattle.std.specs.Option.{is_some};
 ghost use Rattle.std.specs.Str.{bytes_eq};
 ghost use Rattle.dm_reading.specs.Words.{source_words};
 ghost use Rattle.dm_processor.specs.Opcodes.{opcode_word, opcodes};
 ghost use Rattle.dm_asm.specs.Forms.{shape_of};
 ghost use Rattle.dm_asm.specs.Lines.{is_semicolon, without_comment};
-ghost use Rattle.dm_asm.specs.Numbers.{is_label_name, is_name_part, literal_value, register_of};
+ghost use Rattle.dm_asm.specs.Numbers.{literal_value, register_of};
 ghost use Rattle.dm_asm.specs.Operands.{wanted_number};
-ghost use Rattle.dm_explain.specs.BadSources.{bad_word, bad_word_of, has_value, is_fine, is_fine_last, is_no_label, no_label, seen, shape_takes, source_behind, source_of, takes, takes_named};
+ghost use Rattle.dm_explain.specs.BadSources.{bad_word, bad_word_of, has_value, is_fine, is_fine_last, seen, shape_takes, source_behind, source_of, takes, takes_named};
 
 use dm_processor::Opcode;
 use dm_reading::{Base, Gap, capped_number, next_word};
@@ -153,49 +153,6 @@ fn takes_named(word: &[u8]) -> Option<Takes>
         Some(taking(0, Last::Number(65_536)))
     } else {
         opcode_named(word).map(takes_of)
-    }
-}
-
-/// Whether a byte can stand in a label.
-fn can_be_in_name(c: u8) -> bool
-    ensures { result ≡ is_name_part c }
-{
-    matches!(c, b'a'..=b'z' | b'0'..=b'9' | b'_')
-}
-
-/// Whether all of a word can stand in a label.
-fn has_name_parts(word: &[u8]) -> bool
-    ensures { result ≡ list_all is_name_part word.now }
-{
-    word.iter().all(|c| can_be_in_name(*c))
-}
-
-/// Whether a word is a label's name.
-fn is_label(word: &[u8]) -> bool
-    ensures { result ≡ is_label_name word.now }
-{
-    if word.is_empty() || word.len() > 16 || word[0].is_ascii_digit() {
-        return false;
-    }
-    has_name_parts(word)
-}
-
-/// Whether a word ends as a label does, and is none.
-fn is_no_label(word: &[u8]) -> bool
-    requires { 0 < length word.now }
-    ensures { result ≡ is_no_label word.now }
-{
-    word[word.len() - 1] == b':' && !is_label(&word[..word.len() - 1])
-}
-
-/// The first word of a line, where it ends as a label does and is none.
-#[tactic(auto, unfolding(crate::specs::BadSources::no_label))]
-pub fn no_label(line: &[u8]) -> Option<&[u8]>
-    ensures { option_copied result ≡ no_label line.now }
-{
-    match next_word(uncommented(line), Gap::Separators) {
-        None => None,
-        Some((word, _)) => { if is_no_label(word) { Some(word) } else { None } }
     }
 }
 

@@ -5,7 +5,6 @@ mod LookDecided
 mod Deciding
 mod ByRule
 mod NoWords
-mod Pieces
 mod Sound
 mod RunsChecked
 mod DrillsChecked

@@ -37,7 +37,7 @@ pub fn words_of(alloc: Global, args: Result<Args, ArgsError>) -> Result<Vec<Stri
     }
 }
 
-/// Runs the program on the words that it was given, says on standard error what there is to say and its status's line, and gives its number.
+/// Runs the program on the words that it was given, says its status on standard error, and gives its number.
 pub fn finish<F: Shelf, K: Sink, E: Sink>(
     alloc: Global,
     given: Result<Vec<String>, WordsError>,
@@ -51,23 +51,23 @@ pub fn finish<F: Shelf, K: Sink, E: Sink>(
         (sink_around E.told E.faults E.last_failed errors.old errors.new) result }
 {
     let mut world = None;
-    let status = run_given(alloc, &given, shelf, out, &mut world);
-    end(&given, &status, errors)
+    let status = run_given(alloc, given, shelf, out, &mut world);
+    end(&status, errors)
 }
 
 /// Runs the program on the words that it was given, each of them and no other, in order; on none where there are none,
 /// and then nothing is read or written, and no world is left.
 pub fn run_given<F: Shelf, K: Sink>(
     alloc: Global,
-    given: &Result<Vec<String>, WordsError>,
+    given: Result<Vec<String>, WordsError>,
     shelf: &mut F,
     out: &mut K,
     world: &mut Option<World>,
 ) -> Status
-    ensures meets { GivenMeets given.now
+    ensures meets { GivenMeets given
         (around (shelf_around F.asked F.told F.faults F.last_failed shelf.old shelf.new)
         (sink_around K.told K.faults K.last_failed out.old out.new)) world.new result }
-    ensures refused { IfOk given.now (λ words. result ≡ Status.Usage → IsTaken (map string_bytes words.items) → ⊥) }
+    ensures refused { IfOk given (λ words. result ≡ Status.Usage → IsTaken (map string_bytes words.items) → ⊥) }
 {
     *world = None;
     match given {

@@ -5,7 +5,7 @@
 
 use crate::once::{Failing, Fault, Once};
 use crate::program::{Done, run_into, run_over, sink_of};
-use crate::run::is_last_line;
+use crate::run::is_line;
 use anyhow::Result;
 use dm_outside::{MemShelf, MemSink, RealShelf, RealSink};
 use std::alloc::{AllocError, Global};
@@ -260,7 +260,7 @@ impl Ended {
     /// Whether it ended as it must, with these calls of those that are made where nothing fails, and wrote a beginning of its output.
     fn is_right(&self, failed: Failed, all: Calls, whole: &[u8]) -> bool {
         self.done.status == ExitCode::from(failed.status())
-            && is_last_line(self.done.errors.bytes(), failed.line())
+            && is_line(self.done.errors.bytes(), failed.line())
             && self.reads == failed.reads_of(all)
             && self.done.out.calls() == failed.writes_of(all)
             && whole.starts_with(self.done.out.bytes())
@@ -566,5 +566,5 @@ fn writer_once(rt: &HostRuntime, failing: Failing, whole: &[u8]) -> Result<Tally
 
 /// Whether the program ended with the status and the line of what failed.
 fn is_end(status: ExitCode, errors: &MemSink, failed: Failed) -> bool {
-    status == ExitCode::from(failed.status()) && is_last_line(errors.bytes(), failed.line())
+    status == ExitCode::from(failed.status()) && is_line(errors.bytes(), failed.line())
 }

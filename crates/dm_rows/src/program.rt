@@ -5,8 +5,8 @@ use dm_program::finish;
 use std::alloc::{AllocError, Global};
 use std::process::ExitCode;
 
-/// The most bytes of the lines on standard error.
-const LONGEST: usize = 16_384;
+/// The most bytes of a line on standard error.
+const LONGEST_LINE: usize = 96;
 
 /// What the program came to.
 #[derive(Drop)]
@@ -45,7 +45,7 @@ pub fn run_into<F: Shelf, K: Sink>(
     out: &mut K,
 ) -> Result<(ExitCode, MemSink), AllocError> {
     let words = given(alloc, words)?;
-    let mut errors = sink_of(alloc, LONGEST, Vec::new(alloc))?;
+    let mut errors = sink_of(alloc, LONGEST_LINE, Vec::new(alloc))?;
     let status = finish(alloc, Ok(words), shelf, out, &mut errors);
     Ok((status, errors))
 }

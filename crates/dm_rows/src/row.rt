@@ -10,7 +10,7 @@ pub struct Row<'a> {
     pub name: &'a str,
     /// The name of a run.
     pub run: &'a str,
-    /// A line of its output with its number, counted from 1, before it; with number 0 one of the lines on standard error.
+    /// A line of its output with its number, counted from 1, before it; with number 0 the line on standard error.
     pub line: &'a str,
     /// Where the row is about a message, the same of its first put.
     pub put: Option<&'a str>,
@@ -54,7 +54,7 @@ impl<'a> Row<'a> {
 /// Whether a run of this output says a numbered line.
 fn says(run: &Run<'_>, output: &str, line: &str) -> bool {
     match numbered(line) {
-        Some((0, text)) => run.expected.lines.split('~').any(|line| line == text),
+        Some((0, text)) => run.expected.line == text,
         Some((number, text)) => output.lines().nth(number - 1) == Some(text),
         None => false,
     }

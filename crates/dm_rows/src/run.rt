@@ -23,8 +23,8 @@ pub struct Run<'a> {
 pub struct Expected<'a> {
     /// The exit status.
     pub status: u8,
-    /// The lines on standard error, with `~` between: empty for none.
-    pub lines: &'a str,
+    /// The line on standard error, without its line feed: empty for none.
+    pub line: &'a str,
     /// The file of what is written to standard output.
     pub output: &'a str,
 }
@@ -34,7 +34,7 @@ pub struct Expected<'a> {
 pub enum Ending {
     AsSaid,
     OtherStatus,
-    OtherLines,
+    OtherLine,
     OtherOutput,
 }
 
@@ -43,7 +43,7 @@ impl fmt::Display for Ending {
         f.write_str(match self {
             Ending::AsSaid => "as it should be",
             Ending::OtherStatus => "another exit status",
-            Ending::OtherLines => "another line on standard error",
+            Ending::OtherLine => "another line on standard error",
             Ending::OtherOutput => "another output",
         })
     }
@@ -61,7 +61,7 @@ impl<'a> Run<'a> {
         })
     }
 
-    /// Runs the program, and compares its exit status, its lines on standard error and its whole output with what they
+    /// Runs the program, and compares its exit status, its line on standard error and its whole output with what they
     /// must be.
     pub fn ending(&self, rt: &HostRuntime) -> Result<Ending> {
         let done = self.done(rt)?;
@@ -82,7 +82,7 @@ impl<'a> Expected<'a> {
     fn of_columns(columns: &mut Split<'a, char>) -> Option<Expected<'a>> {
         Some(Expected {
             status: columns.next()?.parse().ok()?,
-            lines: columns.next()?,
+            line: columns.next()?,
             output: columns.next()?,
         })
     }
@@ -91,8 +91,8 @@ impl<'a> Expected<'a> {
     fn ending(&self, done: &Done, output: &[u8]) -> Ending {
         if done.status != ExitCode::from(self.status) {
             Ending::OtherStatus
-        } else if !are_lines(done.errors.bytes(), self.lines) {
-            Ending::OtherLines
+        } else if !is_line(done.errors.bytes(), self.line) {
+            Ending::OtherLine
         } else if done.out.bytes() != output {
             Ending::OtherOutput
         } else {
@@ -101,39 +101,10 @@ impl<'a> Expected<'a> {
     }
 }
 
-/// Whether the bytes are these lines, each with its line feed, or nothing where there are none.
-fn are_lines(bytes: &[u8], lines: &str) -> bool {
-    if lines.is_empty() {
-        return bytes.is_empty();
-    }
-    let mut left = bytes;
-    for line in lines.split('~') {
-        match behind_line(left, line) {
-            Some(rest) => left = rest,
-            None => return false,
-        }
-    }
-    left.is_empty()
-}
-
-/// What stands behind this line and its line feed, where the bytes begin with both.
-fn behind_line<'b>(bytes: &'b [u8], line: &str) -> Option<&'b [u8]> {
-    let rest = bytes.strip_prefix(line.as_bytes())?;
-    rest.strip_prefix(b"\n")
-}
-
-/// Whether this is the last line of the bytes, with its line feed, or they are nothing where it is empty.
-pub fn is_last_line(bytes: &[u8], line: &str) -> bool {
+/// Whether the bytes are this line with its line feed, or nothing where it is empty.
+pub fn is_line(bytes: &[u8], line: &str) -> bool {
     match bytes.split_last() {
-        Some((last, text)) => *last == b'\n' && !line.is_empty() && ends_so(text, line.as_bytes()),
+        Some((last, text)) => *last == b'\n' && text == line.as_bytes() && !line.is_empty(),
         None => line.is_empty(),
-    }
-}
-
-/// Whether a text is this line, or ends with it and a line feed before it.
-fn ends_so(text: &[u8], line: &[u8]) -> bool {
-    match text.strip_suffix(line) {
-        Some(before) => before.is_empty() || before.ends_with(b"\n"),
-        None => false,
     }
 }

@@ -2,9 +2,9 @@
 //! which rule bytes break that are one byte off.
 
 use anyhow::Result;
-use dm_memory::NoMemory;
 use dm_procman::ProcMan;
 use dm_switchboard::{ServerError, Switchboard};
+use std::alloc::Global;
 use std::io;
 
 /// A switchboard that has sent 5 messages and moved once. It knows 'db', a link to 0.3, and 'dc', a link to 1.4, which is on machine 2
@@ -75,12 +75,23 @@ fn say_board(rt: &HostRuntime) -> io::Result<()> {
     match Switchboard::unpack(rt.alloc(), &BOARD) {
         Ok(board) => {
             let (names, sent, moves) = (board.len(), board.sent(), board.moves());
-            let same = names <= 2 && are_bytes(board.pack(rt.alloc()), &BOARD);
+            let same = board_is_packed(rt.alloc(), &board);
             println!(rt;
                 "switchboard: {names} names, {sent} sent, {moves} moves, packed to the same bytes: {same}"
             )
         }
         Err(error) => println!(rt; "switchboard: WRONG, {error}"),
+    }
+}
+
+/// Whether a switchboard of few names is packed to the worked bytes.
+fn board_is_packed(alloc: Global, board: &Switchboard) -> bool {
+    if board.len() > 2 {
+        return false;
+    }
+    match board.pack(alloc) {
+        Ok(bytes) => bytes.as_slice() == BOARD.as_slice(),
+        Err(_) => false,
     }
 }
 
@@ -90,8 +101,7 @@ fn say_manager(rt: &HostRuntime) -> io::Result<()> {
         Ok(manager) => {
             let (children, requests) = (manager.children().len(), manager.pending().len());
             let (sent, moves) = (manager.sent(), manager.moves());
-            let few = children <= 2 && requests <= 2;
-            let same = few && are_bytes(manager.pack(rt.alloc()), &MANAGER);
+            let same = manager_is_packed(rt.alloc(), &manager);
             println!(rt;
                 "manager: {children} children, {requests} requests, {sent} sent, {moves} moves, packed to the same bytes: {same}"
             )
@@ -100,10 +110,13 @@ fn say_manager(rt: &HostRuntime) -> io::Result<()> {
     }
 }
 
-/// Whether a server was packed to the worked bytes.
-fn are_bytes(packed: Result<Vec<u8>, NoMemory>, worked: &[u8]) -> bool {
-    match packed {
-        Ok(bytes) => bytes.as_slice() == worked,
+/// Whether a manager of few children and requests is packed to the worked bytes.
+fn manager_is_packed(alloc: Global, manager: &ProcMan) -> bool {
+    if manager.children().len() > 2 || manager.pending().len() > 2 {
+        return false;
+    }
+    match manager.pack(alloc) {
+        Ok(bytes) => bytes.as_slice() == MANAGER.as_slice(),
         Err(_) => false,
     }
 }

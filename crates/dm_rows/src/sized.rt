@@ -3,7 +3,7 @@
 
 use crate::failing::{shelf_of, verdict};
 use crate::program::{Done, run_over, sink_of};
-use crate::run::is_last_line;
+use crate::run::is_line;
 use anyhow::Result;
 use dm_outside::MemSink;
 use std::process::ExitCode;
@@ -185,7 +185,7 @@ fn large_sink(rt: &HostRuntime, room: usize) -> Result<MemSink> {
 /// Whether a run ended with status 0, said nothing and wrote these bytes.
 fn is_done(done: &Done, expected: &[u8]) -> bool {
     done.status == ExitCode::from(0)
-        && is_last_line(done.errors.bytes(), "")
+        && is_line(done.errors.bytes(), "")
         && done.out.bytes() == expected
 }
 

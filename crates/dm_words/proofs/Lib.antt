@@ -2,4 +2,3 @@ pub mod Names
 pub mod CommandWords
 pub mod Given
 pub mod Ranges
-pub mod Usages

@@ -8,6 +8,4 @@ pub mod ChartWords
 pub mod ExplainWords
 pub mod CountWords
 pub mod LookWords
-pub mod Usage
-pub mod Said
 pub mod Words

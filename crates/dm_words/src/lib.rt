@@ -2,6 +2,4 @@
 #![tactic(auto)]
 
 mod look;
-pub mod said;
-pub mod usage;
 pub mod words;

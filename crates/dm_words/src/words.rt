@@ -436,18 +436,18 @@ fn machines(matches: &ArgMatches<'_>) -> Option<u8>
     ensures most { IfSome result (λ n. n ≤ MACHINES) }
 {
     match value(matches, "machines") {
-        Some(word) => machines_in(word.as_bytes()),
+        Some(word) => machines_in(word),
         None => None,
     }
 }
 
 /// The number of machines that a word says.
-pub(crate) fn machines_in(word: &[u8]) -> Option<u8>
+fn machines_in(word: &str) -> Option<u8>
     ensures number { result ≡ machines_in word.now }
     ensures least { IfSome result (λ n. 2 ≤ n) }
     ensures most { IfSome result (λ n. n ≤ MACHINES) }
 {
-    let n = byte(word)?;
+    let n = byte(word.as_bytes())?;
     if 2 <= n && n <= MACHINES {
         Some(n)
     } else {
@@ -461,17 +461,17 @@ fn lines(matches: &ArgMatches<'_>) -> Option<u32>
     ensures most { IfSome result (λ n. n ≤ MOST_LINES) }
 {
     match value(matches, "lines") {
-        Some(word) => lines_in(word.as_bytes()),
+        Some(word) => lines_in(word),
         None => None,
     }
 }
 
 /// The number of directives that a word says.
-pub(crate) fn lines_in(word: &[u8]) -> Option<u32>
+fn lines_in(word: &str) -> Option<u32>
     ensures number { result ≡ lines_in word.now }
     ensures most { IfSome result (λ n. n ≤ MOST_LINES) }
 {
-    let n = count(word)?;
+    let n = count(word.as_bytes())?;
     if 1 <= n && n <= MOST_LINES {
         Some(n)
     } else {

@@ -1,56 +1,19 @@
 //! What is said of a line of an image's text that is refused.
-ghost use Rattle.std.specs.Prelude.{◌≡◌, ◌++◌, OnOk, length, option_copied, option_map};
+ghost use Rattle.std.specs.Prelude.{◌≡◌, ◌++◌, OnOk, length, option_map};
 ghost use Rattle.dm_reading.specs.Words.{source_words};
-ghost use Rattle.dm_explain.specs.BadSources.{bad_word_of, bad_word_told, bytes_due, detail, detail_told, due_told, known_told, label_told, last_of, last_range, missing_value_words, most_told, refused_told, seen, source_of, unknown_told, which_told, why_words};
+ghost use Rattle.dm_explain.specs.BadSources.{bad_word_of, bad_word_told, bytes_due, detail, detail_told, due_told, last_of, last_range, missing_value_words, most_told, refused_told, seen, source_of, which_told, why_words};
 
 use crate::part::{Part, put, put_parts};
 use crate::schedule::{put_counts, put_said};
-use crate::source::{Last, Statement, Takes, Wrong, bad_word, no_label, statement_of};
+use crate::source::{Last, Statement, Takes, Wrong, bad_word, statement_of};
 use dm_asm::Why;
 use dm_memory::NoMemory;
 use dm_reading::{Gap, count_words};
 
 /// Writes why a line is refused, the line, and what is wrong there.
+#[tactic(auto, using(crate::proofs::Pieces::join_lemmas))]
 pub(super) fn put_refused(into: &mut Vec<u8>, why: Why, line: &[u8]) -> Result<(), NoMemory>
     ensures { OnOk result (into.new.items ≡ into.old.items ++ refused_told why (source_of line.now) line.now) }
-{
-    match why {
-        Why::UnknownWord => put_unknown(into, line),
-        _ => put_known(into, why, line),
-    }
-}
-
-/// Writes that a line has no word that there is.
-fn put_unknown(into: &mut Vec<u8>, line: &[u8]) -> Result<(), NoMemory>
-    ensures { OnOk result (into.new.items ≡ into.old.items ++ unknown_told line.now) }
-{
-    put_said(into, "no such word", line)?;
-    put_no_label(into, no_label(line))
-}
-
-/// Writes that a word is no label, where it ends as one does.
-fn put_no_label(into: &mut Vec<u8>, word: Option<&[u8]>) -> Result<(), NoMemory>
-    ensures { OnOk result (into.new.items ≡ into.old.items ++ label_told (option_copied word.entry)) }
-{
-    match word {
-        Some(word) => put_parts(
-            into,
-            &[
-                Part::Text(": "),
-                Part::Line(word),
-                Part::Text(
-                    " is no label, which has 1 to 16 of a to z, 0 to 9 and _, the first no digit",
-                ),
-            ],
-        ),
-        None => Ok(()),
-    }
-}
-
-/// Writes why a line is refused that has such a word, the line, and what is wrong there.
-#[tactic(auto, using(crate::proofs::Pieces::join_lemmas))]
-fn put_known(into: &mut Vec<u8>, why: Why, line: &[u8]) -> Result<(), NoMemory>
-    ensures { OnOk result (into.new.items ≡ into.old.items ++ known_told why (source_of line.now) line.now) }
 {
     let statement = statement_of(line);
     put_said(into, why_words(why, statement), line)?;

@@ -14,8 +14,8 @@ returns-in-Ok-texts-clause-meets g c =
     let a = around (shelf_around g.F.Shelf.asked g.F.Shelf.told g.F.Shelf.faults g.F.Shelf.last_failed c.args.shelf.now c.run_program.new.shelf) (sink_around g.K.Sink.told g.K.Sink.faults g.K.Sink.last_failed c.args.out.now c.run_program.new.out) in
     rw c.in-Ok.is (subst (λ (w : List (List ℕ)). ProgramMeets (request_of w) a c.run_program.new.world c.run_program.result) e c.run_program.ensures.meets)
 
-pub returns-in-Err-texts-clause-meets : goal.returns-in-Err-texts-clause-meets
-returns-in-Err-texts-clause-meets g c =
+pub returns-in-Ok-clause-meets : goal.returns-in-Ok-clause-meets
+returns-in-Ok-clause-meets g c =
     let nothing : (name : List ℕ) → g.F.Shelf.asked c.args.shelf.now name c.args.shelf.now = λ name. search rules in
     rw c.in-Ok.is (program_lacks (request_of (map string_bytes c.in-Ok.words.items)) _ _ c.in-Err-texts.no (asked_fits (map string_bytes c.in-Ok.words.items)) (record { unread = refl; unwritten = refl; no_world = refl }) nothing)
 
@@ -24,5 +24,5 @@ returns-in-Ok-texts-clause-refused g c =
     let e : map (λ w. w.now) c.as_slice-in-Ok-texts.result.now ≡ map string_bytes c.in-Ok.words.items = search rules in
     rw c.in-Ok.is (λ usage taken. c.run_program.ensures.refused usage (subst IsTaken (sym e) taken))
 
-pub returns-in-Err-clause-meets : goal.returns-in-Err-clause-meets
-returns-in-Err-clause-meets g c = rw c.in-Err.is (no_words c.in-Err.no _ _ c.status.result c.status.ensures (record { unread = refl; unwritten = refl; no_world = refl }))
+pub returns-clause-meets : goal.returns-clause-meets
+returns-clause-meets g c = rw c.in-Err.is (no_words c.in-Err.no _ _ c.status.result c.status.ensures (record { unread = refl; unwritten = refl; no_world = refl }))
