@@ -1,5 +1,5 @@
 //! How far a directive has come, and which elementary one comes next.
-ghost use Rattle.std.specs.Prelude.{◌≡◌, ◌∷◌, ◌+◌, ◌<◌, ◌≤◌, ℕ, List, None, Some, IfSome, [], length};
+ghost use Rattle.std.specs.Prelude.{◌≡◌, ◌∷◌, ◌+◌, ◌<◌, ℕ, List, None, Some, IfSome, length};
 ghost use Rattle.dm_schedule.specs.declared.Directive.{Directive as TheDirective};
 ghost use Rattle.dm_line.specs.Todo.{Seen, Two, all_of, following, is_over, takes_turn};
 ghost use Rattle.dm_world.specs.Cursor.{Falls, FirstIs, FirstTurnIs, InPassIs, IsFresh, NextIs, NextPassIs, RoundGoes, RowIs, TakesTurn, pairs_at, todo_of};

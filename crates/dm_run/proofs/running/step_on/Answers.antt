@@ -1,4 +1,4 @@
-use Rattle.dm_run.proofs.Names.{List, Line, world_state, world_step, StopsWorn}
+use Rattle.dm_run.proofs.Names.{world_state, StopsWorn}
 use Rattle.dm_run.proofs.Counted.{counts}
 use Rattle.dm_run.proofs.Going.{done, if_err, may_step, running_on, stops_as}
 use Rattle.dm_run.proofs.running.step_on.Goals as goal
