@@ -15,7 +15,7 @@ use crate::part::Part;
 use crate::ring::remove;
 use dm_line::line::Line;
 use dm_link::Pid;
-use dm_lists::Queue;
+use dm_lists::Parcels;
 use dm_memory::{NoMemory, list_of, push};
 use dm_message::Message;
 use dm_onekernel::{Label, Why};
@@ -58,7 +58,7 @@ impl Kernel {
 }
 
 /// Drops the messages of a queue, and says so.
-pub(crate) fn drop_all(queue: Queue<Message>, parts: &mut Vec<Part>) -> Result<(), NoMemory>
+pub(crate) fn drop_all(queue: Parcels<Message>, parts: &mut Vec<Part>) -> Result<(), NoMemory>
     ensures { OnOk result (parts.new.items ≡ parts.old.items ++ drops queue) }
 {
     let mut queue = queue;

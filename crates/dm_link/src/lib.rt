@@ -11,10 +11,10 @@ pub const MACHINES: u8 = 16;
 /// The number of the first process that a machine makes.
 pub const FIRST_NUMBER: u32 = 3;
 
-/// The switchboard (1977), on machine 0.
+/// The switchboard (1977).
 pub const SWITCHBOARD: Pid = Pid { home: 0, num: 1 };
 
-/// The process manager (1977), on machine 0.
+/// The process manager (1977).
 pub const MANAGER: Pid = Pid { home: 0, num: 2 };
 
 /// The greatest channel; they are numbered from 0.

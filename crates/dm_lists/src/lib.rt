@@ -3,8 +3,10 @@
 
 pub mod bytes;
 pub mod items;
+pub mod parcels;
 pub mod queue;
 
 pub use bytes::is_over;
 pub use items::Items;
+pub use parcels::Parcels;
 pub use queue::{Queue, put_before};

@@ -9,7 +9,7 @@ ghost use Rattle.dm_world.specs.Meets.{IsWorld, world_state};
 ghost use Rattle.dm_look.specs.Waiting.{given_by, given_on, kept_at, kept_for, kept_of_home, kept_of_servers, waiting, waiting_at};
 
 use dm_link::{FIRST_NUMBER, MACHINES, MANAGER, Pid, SWITCHBOARD};
-use dm_lists::Queue;
+use dm_lists::{Parcels, Queue};
 use dm_memory::{NoMemory, Parcel, push};
 use dm_message::Message;
 use dm_node::Node;
@@ -162,7 +162,7 @@ fn find_with<'a>(resident: &'a Resident, found: &mut Vec<&'a Message>) -> Result
 
 /// The messages of a queue, its front first.
 fn find_in_queue<'a>(
-    queue: &'a Queue<Message>,
+    queue: &'a Parcels<Message>,
     found: &mut Vec<&'a Message>,
 ) -> Result<(), NoMemory>
     ensures { OnOk result (map (λ x. x.now) found.new.items ≡ map (λ x. x.now) found.old.items ++ queue.now) }

@@ -1,6 +1,6 @@
 //! Ordered maps.
 ghost use Rattle.std.specs.Prelude.{◌≡◌, IfErr, IfOk, OnErr, OnOk, None, Some};
-ghost use Rattle.std.specs.BTreeMap.{IsUnchanged, Updates, get};
+ghost use Rattle.std.specs.BTreeMap.{IsUnchanged, Updates, get, insert_entry};
 
 use crate::NoMemory;
 use std::collections::BTreeMap;
@@ -31,6 +31,7 @@ pub fn insert<K: Ord + Drop, V: Drop>(
 ) -> Result<Option<V>, NoMemory>
     ensures old { IfOk result (λ old. old ≡ get K.cmp map.old key) }
     ensures updates { OnOk result (Updates K.cmp map.old map.new key (Some value)) }
+    ensures entries { OnOk result (map.new.entries ≡ insert_entry K.cmp map.old.entries key value) }
     ensures absent { OnErr result (get K.cmp map.old key ≡ None) }
     ensures err { OnErr result (IsUnchanged map.old map.new) }
 {

@@ -1,2 +1,3 @@
 pub mod Names
 pub mod Search
+pub mod Passed

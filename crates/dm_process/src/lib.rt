@@ -1,6 +1,7 @@
 //! Processes: registers, memory, links, and the messages that wait for them.
 #![tactic(auto)]
 
+mod channels;
 pub mod mailbox;
 pub mod process;
 

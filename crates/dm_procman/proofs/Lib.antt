@@ -7,4 +7,5 @@ pub mod Lawful
 pub mod Packed
 pub mod Naming
 pub mod Loops
+pub mod Numbered
 pub mod Worked

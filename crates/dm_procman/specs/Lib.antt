@@ -4,6 +4,7 @@ pub mod Controls
 pub mod Taking
 pub mod Moving
 pub mod Named
+pub mod Numbered
 pub mod Plainly
 pub mod Lawful
 pub mod Packed

@@ -2,7 +2,7 @@
 //! as it is told (1983).
 #![tactic(auto)]
 
-ghost use Rattle.std.specs.Prelude.{◌≡◌, ◌+◌, ◌<◌, ◌≤◌, ◌^◌, false, IfOk, IfSome, IsSome, Ok, OnErr, Some, length};
+ghost use Rattle.std.specs.Prelude.{◌≡◌, ◌+◌, ◌<◌, ◌≤◌, ◌^◌, false, IfOk, IfSome, IsSome, Ok, OnErr, Some, is_some, length};
 ghost use Rattle.dm_link.specs.Lawful.{IsMachine};
 ghost use Rattle.dm_message.specs.Lawful.{IsLawfulMessage};
 ghost use Rattle.dm_message.specs.Plain.{plain_message};
@@ -32,9 +32,9 @@ use dm_onekernel::Boot;
 pub use dm_statebytes::server::ServerError;
 use making::{address_at, answer_over, control_link};
 pub use moving::MoveError;
-use moving::{move_message, retarget_pending};
+use moving::move_message;
 pub use pending::Pending;
-use pending::take_pending;
+use pending::Unanswered;
 use reading::manager_at;
 use std::alloc::Global;
 use std::marker::Model;
@@ -47,7 +47,7 @@ use writing::manager_bytes;
 #[derive(Drop)]
 pub struct ProcMan {
     children: Children,
-    pending: Vec<Pending>,
+    pending: Unanswered,
     /// Where the switchboard was last known to be.
     board: Addr,
     sent: u32,
@@ -62,7 +62,7 @@ impl Model for ProcMan {
 
     ghost Value = { Managing };
 
-    ghost view = { λ g. record { children = g.children; pending = g.pending.items; board = g.board; sent = g.sent; moves = g.moves; machines = g.machines; images = g.images } };
+    ghost view = { λ g. record { children = g.children; pending = g.pending; board = g.board; sent = g.sent; moves = g.moves; machines = g.machines; images = g.images } };
 }
 
 impl ProcMan {
@@ -82,7 +82,7 @@ impl ProcMan {
     {
         Ok(ProcMan {
             children: starting::children_of(alloc, boot)?,
-            pending: Vec::new(alloc),
+            pending: Unanswered::new(alloc),
             board: Addr {
                 pid: SWITCHBOARD,
                 at: 0,
@@ -102,11 +102,25 @@ impl ProcMan {
         self.children.as_slice()
     }
 
-    /// The requests that wait for an answer, in order.
-    pub fn pending(&self) -> &[Pending]
-        ensures { result.now ≡ self.now.pending }
+    /// A list of the requests that wait for an answer, in order.
+    pub fn pending(&self) -> Result<Vec<Pending>, NoMemory>
+        ensures { IfOk result (λ list. list.items ≡ self.now.pending) }
     {
-        self.pending.as_slice()
+        self.pending.listed()
+    }
+
+    /// How many requests wait for an answer.
+    pub fn waiting(&self) -> usize
+        ensures { result ≡ length self.now.pending }
+    {
+        self.pending.len()
+    }
+
+    /// Whether a request of this number waits for an answer.
+    pub fn awaits(&self, number: u32) -> bool
+        ensures { result ≡ is_some (pending_request number self.now.pending) }
+    {
+        self.pending.has(number)
     }
 
     /// How many messages were sent.
@@ -206,7 +220,7 @@ impl ProcMan {
             moves: 0,
         };
         self.children.push(child)?;
-        let request = take_pending(&mut self.pending, number);
+        let request = self.pending.take(number);
         let control = control_link(here, self.moves, self.children.len() as u32);
         Ok(self.answer_pending(here, request, 0, &[control]))
     }
@@ -217,7 +231,7 @@ impl ProcMan {
         requires counts { self.old.sent < u32.MAX }
         ensures { takes_no_room here self.old number (pending_request number self.old.pending) ≡ Some (record { manager = self.new; message = result }) }
     {
-        let request = take_pending(&mut self.pending, number);
+        let request = self.pending.take(number);
         self.answer_pending(here, request, 1, &[])
     }
 
@@ -228,7 +242,7 @@ impl ProcMan {
         ensures { takes_moved here self.old number outcome (pending_request number self.old.pending) ≡
             Some (record { manager = self.new; message = result }) }
     {
-        let request = take_pending(&mut self.pending, number);
+        let request = self.pending.take(number);
         self.answer_pending(here, request, outcome.code(), &[])
     }
 
@@ -290,7 +304,7 @@ impl ProcMan {
     {
         let behind = self.board.retarget(about, at, moves);
         let changed = self.children.retarget(about, at, moves)
-            + retarget_pending(self.pending.as_mut_slice(), about, at, moves);
+            + self.pending.retarget(about, at, moves);
         if behind { 1 + changed } else { changed }
     }
 
@@ -303,12 +317,13 @@ impl ProcMan {
         ensures again { IfOk result (λ v. manager_of_bytes self.now.machines self.now.images v.items ≡ Ok self.now) }
     {
         let children = self.children.as_slice();
-        let pending = self.pending.as_slice();
+        let pending = self.pending.listed()?;
+        let requests = pending.as_slice();
         manager_bytes(
             alloc,
             children,
             self.board,
-            pending,
+            requests,
             (self.sent, self.moves),
         )
     }

@@ -69,8 +69,16 @@ pub fn retarget_pending(pending: &mut [Pending], about: Pid, at: u8, moves: u32)
     changed
 }
 
+/// Whether the link for the answer to a request, if it has one, leads to a process and knows fewer moves of it.
+pub fn is_behind(request: &Pending, about: Pid, moves: u32) -> bool
+    ensures { result ≡ pending_is_behind about moves request.now }
+{
+    let mut told = *request;
+    retarget_answer(&mut told, about, 0, moves)
+}
+
 /// Tells the link for the answer to a request, if it has one; whether it changed.
-fn retarget_answer(request: &mut Pending, about: Pid, at: u8, moves: u32) -> bool
+pub fn retarget_answer(request: &mut Pending, about: Pid, at: u8, moves: u32) -> bool
     ensures request { request.new ≡ retargeted_pending about at moves request.old }
     ensures changed { result ≡ pending_is_behind about moves request.old }
 {

@@ -8,9 +8,9 @@ ghost use Rattle.dm_statebytes.specs.Servers.{Adds, IsUnpacked, ReadsSeen, Reads
 ghost use Rattle.dm_procman.specs.Packed.{children_field, kind_wanted, manager_of_bytes, read_manager, request, requests_field};
 
 use crate::children::Children;
+use crate::pending::Unanswered;
 use crate::{Pending, ProcMan};
 use dm_link::{Link, MANAGER, SWITCHBOARD};
-use dm_memory::push;
 use dm_onekernel::PendingKind;
 use dm_packet::PacketError;
 use dm_packet::reading::fields::{addr_at, byte_at, link_at, u32_at};
@@ -80,19 +80,19 @@ fn request_at(bytes: &[u8]) -> Result<(Pending, &[u8]), PacketError>
 }
 
 /// Reads a pending request, and puts it behind the others.
-fn add_request<'a>(pending: &mut Vec<Pending>, bytes: &'a [u8]) -> Result<&'a [u8], Unread>
-    ensures { Adds pending.old.items result pending.new.items (request.read bytes.now) }
+fn add_request<'a>(pending: &mut Unanswered, bytes: &'a [u8]) -> Result<&'a [u8], Unread>
+    ensures { Adds pending.old result pending.new (request.read bytes.now) }
 {
     let (request, rest) = request_at(bytes)?;
-    push(pending, request)?;
+    pending.push(request)?;
     Ok(rest)
 }
 
 /// So many pending requests.
-fn request_run_at(alloc: Global, bytes: &[u8], count: u32) -> Result<(Vec<Pending>, &[u8]), Unread>
-    ensures { ReadsSeen (λ v. v.items) result (read_times request.read count bytes.now) }
+fn request_run_at(alloc: Global, bytes: &[u8], count: u32) -> Result<(Unanswered, &[u8]), Unread>
+    ensures { ReadsSeen (λ u. u) result (read_times request.read count bytes.now) }
 {
-    let mut pending = Vec::new(alloc);
+    let mut pending = Unanswered::new(alloc);
     let mut rest = bytes;
     for _ in 0..count {
         let after = add_request(&mut pending, rest)?;
@@ -101,8 +101,8 @@ fn request_run_at(alloc: Global, bytes: &[u8], count: u32) -> Result<(Vec<Pendin
     Ok((pending, rest))
 }
 
-fn requests_at(alloc: Global, bytes: &[u8]) -> Result<(Vec<Pending>, &[u8]), Unread>
-    ensures { ReadsSeen (λ v. v.items) result (requests_field.read bytes.now) }
+fn requests_at(alloc: Global, bytes: &[u8]) -> Result<(Unanswered, &[u8]), Unread>
+    ensures { ReadsSeen (λ u. u) result (requests_field.read bytes.now) }
 {
     let (count, rest) = u32_at(bytes)?;
     request_run_at(alloc, rest, count)

@@ -8,7 +8,7 @@ use crate::making::{answer_over, message_to};
 use crate::{Pending, ProcMan};
 use arrayvec::ArrayVec;
 use dm_link::{Addr, Link};
-use dm_memory::{NoMemory, push};
+use dm_memory::NoMemory;
 use dm_message::{MOST_LINKS, Message, What};
 use dm_onekernel::PendingKind;
 
@@ -105,7 +105,7 @@ impl ProcMan {
             kind,
             answer,
         };
-        push(&mut self.pending, pending)?;
+        self.pending.push(pending)?;
         Ok(self.send(here, to, what))
     }
 

@@ -1,6 +1,6 @@
 //! Sets of machines.
-ghost use Rattle.std.specs.Prelude.{◌≡◌, ℕ, ◌<◌, ◌==◌, ◌||◌, false, length};
-ghost use Rattle.dm_records.specs.Machines.{has, machines_with};
+ghost use Rattle.std.specs.Prelude.{◌≡◌, ℕ, ◌<◌, ◌≤◌, ◌==◌, ◌&&◌, ◌||◌, IfNone, IfSome, false, length, not};
+ghost use Rattle.dm_records.specs.Machines.{IsFirstFrom, has, machines_with};
 
 use dm_link::MACHINES;
 
@@ -46,6 +46,32 @@ impl Machines {
     {
         Machines {
             bits: self.bits | 1 << machine,
+        }
+    }
+
+    /// The same machines without one.
+    pub fn without(self, machine: u8) -> Machines
+        requires { machine < MACHINES }
+        ensures { (n : ℕ) → n < MACHINES → has result n ≡ not (machine == n) && has self n }
+    {
+        Machines {
+            bits: self.bits & !(1 << machine),
+        }
+    }
+
+    /// The first of them from a machine on.
+    pub fn first_from(self, machine: u8) -> Option<u8>
+        ensures none { IfNone result ((n : ℕ) → machine ≤ n → has self n ≡ false) }
+        ensures some { IfSome result (IsFirstFrom self machine) }
+    {
+        if machine >= MACHINES {
+            return None;
+        }
+        let ahead = self.bits >> machine;
+        if ahead == 0 {
+            None
+        } else {
+            Some(machine + ahead.trailing_zeros() as u8)
         }
     }
 }

@@ -1,5 +1,5 @@
 //! What the servers do with a message.
-ghost use Rattle.std.specs.Prelude.{◌≡◌, ◌+◌, ◌<◌, OnOk, is_some};
+ghost use Rattle.std.specs.Prelude.{◌≡◌, ◌+◌, ◌<◌, OnOk};
 ghost use Rattle.dm_link.specs.Names.{pid_eq};
 ghost use Rattle.dm_onekernel.specs.Boot.{manager, switchboard};
 ghost use Rattle.dm_message.specs.Lawful.{IsLawfulMessage};
@@ -11,7 +11,6 @@ ghost use Rattle.dm_replay.specs.Answers.{Gives};
 ghost use Rattle.dm_replay.specs.Sound.{IsOf, IsSound};
 ghost use Rattle.dm_replay.specs.State.{one_kernel};
 ghost use Rattle.dm_replay.specs.Steps.{Stays, Steps};
-ghost use Rattle.dm_procman.specs.Taking.{pending_request};
 ghost use Rattle.dm_replay.specs.Tests.{is_for_manager};
 ghost use Rattle.dm_replay.specs.Serving.{board_at, manager_at};
 
@@ -19,14 +18,7 @@ use crate::kernel::{HERE, Kernel, MOST_LABELS, Refusal};
 use dm_link::{MANAGER, Pid, SWITCHBOARD};
 use dm_message::{Message, MsgId, What};
 use dm_onekernel::Boot;
-use dm_procman::{Pending, ProcMan};
-
-/// Whether a request of this number waits for an answer.
-fn waits_for(pending: &[Pending], number: u32) -> bool
-    ensures { result ≡ is_some (pending_request number pending.now) }
-{
-    pending.iter().any(|request| request.n == number)
-}
+use dm_procman::ProcMan;
 
 /// Whether the manager takes what a message of this number says.
 fn is_for_manager(manager: &ProcMan, number: u32, what: &What) -> bool
@@ -34,9 +26,9 @@ fn is_for_manager(manager: &ProcMan, number: u32, what: &What) -> bool
 {
     match what {
         What::User { .. } => true,
-        What::Created { .. } => waits_for(manager.pending(), number),
-        What::NoRoom => waits_for(manager.pending(), number),
-        What::Moved { .. } => waits_for(manager.pending(), number),
+        What::Created { .. } => manager.awaits(number),
+        What::NoRoom => manager.awaits(number),
+        What::Moved { .. } => manager.awaits(number),
         _ => false,
     }
 }

@@ -88,7 +88,7 @@ fn say_board(rt: &HostRuntime) -> io::Result<()> {
 fn say_manager(rt: &HostRuntime) -> io::Result<()> {
     match ProcMan::unpack(rt.alloc(), &MANAGER, MACHINES, IMAGES) {
         Ok(manager) => {
-            let (children, requests) = (manager.children().len(), manager.pending().len());
+            let (children, requests) = (manager.children().len(), manager.waiting());
             let (sent, moves) = (manager.sent(), manager.moves());
             let few = children <= 2 && requests <= 2;
             let same = few && are_bytes(manager.pack(rt.alloc()), &MANAGER);

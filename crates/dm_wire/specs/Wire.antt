@@ -1,5 +1,7 @@
 -- The wires between sixteen machines, one for each ordered pair.
 use Rattle.std.specs.Prelude.{◌≡◌, ◌<◌, true, false, None, position, ℕ, ◌+◌, ◌*◌, nat_lt, Bool, ◌==◌, ◌&&◌, if◌then◌else◌, List, [], ◌∷◌, ◌++◌, slice_index_or}
+use Rattle.dm_records.specs.Machines.{has}
+use Rattle.dm_records.specs.declared.machines.Machines.{Machines}
 use Rattle.dm_wire.specs.Sent.{Sent, is_unseen, just_put, marked}
 
 -- all packets ever put on the wire from a to b, in order: the pairs stand by the first machine, then by the second, and
@@ -18,10 +20,6 @@ after_put packets a b bytes x y = if is_pair a b x y then packets x y ++ just_pu
 abbrev pub after_mark : (ℕ → ℕ → List Sent) → ℕ → ℕ → ℕ → ℕ → ℕ → List Sent
 after_mark packets a b k x y = if is_pair a b x y then marked (packets x y) k else packets x y
 
--- all packets from machine a were delivered
-abbrev pub IsDelivered : List (List Sent) → ℕ → Type 0
-IsDelivered pairs a = (b : ℕ) → b < 16 → position is_unseen (packets_on pairs a b) ≡ None
-
--- so were those from each machine where none is pending
-abbrev pub AreDelivered : List Bool → List (List Sent) → Type 0
-AreDelivered pending pairs = (a : ℕ) → a < 16 → slice_index_or pending a false ≡ false → IsDelivered pairs a
+-- where a machine isn't among those to which something of the sender is pending, all packets to it were delivered
+abbrev pub AreDelivered : List Machines → List (List Sent) → Type 0
+AreDelivered pending pairs = (a b : ℕ) (none : Machines) → a < 16 → b < 16 → has (slice_index_or pending a none) b ≡ false → position is_unseen (packets_on pairs a b) ≡ None

@@ -1,11 +1,12 @@
 //! The wires of all pairs of machines.
-ghost use Rattle.std.specs.Prelude.{IfOk, None, OnErr, OnOk, [], false, true, length, option_map, position, slice_index_or, vec_len, ◌*◌, ◌+◌, ◌<◌, ◌^◌, ◌≡◌, ◌≤◌, ℕ};
+ghost use Rattle.std.specs.Prelude.{IfNone, IfOk, IfSome, None, OnErr, OnOk, [], false, length, option_map, position, slice_index_or, vec_len, ◌*◌, ◌+◌, ◌<◌, ◌^◌, ◌≡◌, ◌≤◌, ℕ};
 ghost use Rattle.dm_wire.specs.Sent.{is_unseen};
-ghost use Rattle.dm_wire.specs.Wire.{IsDelivered, packets_on};
+ghost use Rattle.dm_wire.specs.Wire.{after_mark, packets_on};
 
 use crate::packets::Packets;
 use dm_link::MACHINES;
 use dm_memory::{NoMemory, push};
+use dm_records::Machines;
 use std::alloc::Global;
 use std::marker::Model;
 
@@ -14,8 +15,8 @@ use std::marker::Model;
 #[derive(Drop)]
 pub struct Wire {
     pairs: Vec<Packets>,
-    /// Of each sender, whether there may be a packet that isn't marked.
-    pending: [bool; MACHINES as usize],
+    /// Of each sender, the receivers to which there may be a packet that isn't marked.
+    pending: [Machines; MACHINES as usize],
     alloc: Global,
 }
 
@@ -62,17 +63,13 @@ fn unseen(pairs: &[Packets], a: u8, b: u8) -> Option<u64>
     }
 }
 
-/// Whether a packet from machine `a` isn't marked.
-fn is_open(pairs: &[Packets], a: u8) -> bool
-    requires { a < MACHINES }
-    ensures { result ≡ false → IsDelivered pairs.now a }
+/// Marks the packet with this number from `a` to `b`.
+#[tactic(auto, unfolding(crate::specs::Wire::packets_on))]
+fn mark(pairs: &mut Vec<Packets>, a: u8, b: u8, number: u64)
+    requires { (a < MACHINES) × (b < MACHINES) × (number < length (packets_on pairs.old.items a b)) }
+    ensures { (x y : ℕ) → packets_on pairs.new.items x y ≡ after_mark (packets_on pairs.old.items) a b number x y }
 {
-    for b in 0..MACHINES {
-        if unseen(pairs, a, b).is_some() {
-            return true;
-        }
-    }
-    false
+    pairs[place(a, b)].mark(number);
 }
 
 #[tactic(auto, unfolding(crate::specs::Wire::packets_on))]
@@ -86,7 +83,7 @@ impl Wire {
     {
         Wire {
             pairs: Vec::new(alloc),
-            pending: [false; MACHINES as usize],
+            pending: [Machines::none(); MACHINES as usize],
             alloc,
         }
     }
@@ -98,7 +95,8 @@ impl Wire {
         ensures number { IfOk result (λ k. k ≡ length (packets_on self.old a b)) }
         ensures err { OnErr result ((x y : ℕ) → packets_on self.new x y ≡ packets_on self.old x y) }
     {
-        self.pending[usize::from(a)] = true;
+        let row = &mut self.pending[usize::from(a)];
+        *row = row.with(b);
         let place = place(a, b);
         reach(&mut self.pairs, self.alloc, place + 1)?;
         self.pairs[place].put(bytes)
@@ -131,16 +129,20 @@ impl Wire {
         requires { (a < MACHINES) × (b < MACHINES) × (number < length (packets_on self.old a b)) }
         ensures { (x y : ℕ) → packets_on self.new x y ≡ after_mark (packets_on self.old) a b number x y }
     {
-        self.pairs[place(a, b)].mark(number);
-        self.pending[usize::from(a)] = is_open(&self.pairs, a);
+        mark(&mut self.pairs, a, b, number);
+        if unseen(&self.pairs, a, b).is_none() {
+            let row = &mut self.pending[usize::from(a)];
+            *row = row.without(b);
+        }
     }
 
-    /// Whether a packet from machine `a` may not be marked yet: where not, all are.
-    pub fn is_pending(&self, a: u8) -> bool
+    /// The first machine from `to` on to which a packet from `a` may not be marked yet: to those before it, all are.
+    pub fn first_open(&self, a: u8, to: u8) -> Option<u8>
         requires { a < MACHINES }
-        ensures { result ≡ false → (b : ℕ) → position is_unseen (packets_on self.now a b) ≡ None }
+        ensures none { IfNone result ((b : ℕ) → to ≤ b → position is_unseen (packets_on self.now a b) ≡ None) }
+        ensures some { IfSome result (λ k. (to ≤ k) × ((b : ℕ) → to ≤ b → b < k → position is_unseen (packets_on self.now a b) ≡ None)) }
     {
-        self.pending[usize::from(a)]
+        self.pending[usize::from(a)].first_from(to)
     }
 
     /// The least number on the wire from `a` to `b` that isn't marked. It looks at no packet that was delivered.
