@@ -1,6 +1,6 @@
 -- How far a text has been checked, group by group.
-use Rattle.dm_check.proofs.Names.{◌≡◌, ◌<◌, ℕ, ◌+◌, Bool, true, if◌then◌else◌, List, [], ◌∷◌, ◌++◌, length, refl, ap, sym, ◌∙◌, subst, append_assoc, append-nil, length-append, arith, Some, All, All-nil, All-cons}
-use Rattle.dm_check.proofs.Names.{All-append, Boot, Step, Line, LineFits, pieces, text_of_lines, WorldState, joined, Stop, Went, goes, Does, WearsBy, StopsWorn, NotDue, suc, HasChecked, JudgedBy, JudgedThere, NoGroup, IsStray, JudgeError, Wearing, due_behind, ComesTo, SaysAs}
+use Rattle.dm_check.proofs.Names.{◌≡◌, ◌<◌, ℕ, ◌+◌, true, List, [], ◌∷◌, ◌++◌, length, refl, ap, sym, ◌∙◌, subst, append_assoc, append-nil, length-append, arith, Some, All, All-nil, All-cons}
+use Rattle.dm_check.proofs.Names.{All-append, Boot, Step, Line, LineFits, pieces, text_of_lines, WorldState, joined, Stop, Went, goes, Does, StopsWorn, NotDue, suc, HasChecked, JudgedBy, JudgedThere, NoGroup, IsStray, JudgeError, Wearing, due_behind, ComesTo, SaysAs}
 use Rattle.dm_check.proofs.Names.{first_line, head_of_line, AllHeld, AreHeads, Course, Verdict, behind_line, can_hold, judged_from, verdict_by}
 use Rattle.dm_line.specs.declared.line.Line.TheVariants as line
 use Rattle.dm_node.specs.declared.stop.Stop.TheVariants as stop

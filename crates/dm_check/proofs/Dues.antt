@@ -1,8 +1,8 @@
 -- What was due in a line of a text, line by line.
-use Rattle.dm_check.proofs.Names.{◌≡◌, ℕ, zero, suc, ◌+◌, ◌-◌, Bool, true, false, if◌then◌else◌, List, [], ◌∷◌, ◌++◌, length, take, drop, refl, ap, sym, ◌∙◌, subst, append_assoc, append-nil, length-append, arith, option_map, Some, None, Option}
-use Rattle.dm_check.proofs.Names.{All, codes, bytes_eq, Step, Line, EndLine, EndFits, LineFits, Course, pieces, line_words, end_words, text, end_text, text_of_ends, text_of_lines, line_words-are, end_words_are, line_bytes, spelled_bytes}
-use Rattle.dm_check.proofs.Names.{pieces_of_line, IsFull, has_shape, some_piece, lines_have, ends_have, first_line, head_of_line, is_final, Due, Judgement, Stands, Falls, NotDue, NotTheEnd, is_line_text, behind_line, told, at_end, at_head, begins_group, can_hold, taken}
-use Rattle.dm_check.proofs.Names.{Wearing, Group, WasDue, before_told, behind_told, due_behind, end_told, group_told, head_told, line_told, told_of_last}
+use Rattle.dm_check.proofs.Names.{◌≡◌, ℕ, zero, suc, ◌+◌, ◌-◌, Bool, true, false, if◌then◌else◌, List, [], ◌∷◌, ◌++◌, length, take, drop, refl, ap, sym, ◌∙◌, append_assoc, append-nil, length-append, arith, option_map, Some, None, Option}
+use Rattle.dm_check.proofs.Names.{All, codes, Step, Line, EndLine, EndFits, LineFits, Course, pieces, line_words, end_words, text, end_text, text_of_ends, text_of_lines, line_words-are, end_words_are, line_bytes, spelled_bytes}
+use Rattle.dm_check.proofs.Names.{pieces_of_line, IsFull, has_shape, lines_have, ends_have, first_line, head_of_line, is_final, Due, Judgement, Stands, Falls, NotDue, NotTheEnd, is_line_text, behind_line, told, at_end, can_hold, taken}
+use Rattle.dm_check.proofs.Names.{Wearing, Group, WasDue, behind_told, due_behind, group_told, head_told, line_told, told_of_last}
 use Rattle.dm_link.specs.declared.Pid.{Pid}
 use Rattle.dm_line.specs.declared.line.Line.TheVariants as line
 use Rattle.dm_check.specs.Judge as judge

@@ -1,6 +1,6 @@
 -- What becomes of the verdict at each line of a text.
 use Rattle.dm_check.proofs.Names.{◌≡◌, ◌<◌, ℕ, suc, ◌+◌, ◌==◌, Bool, true, false, if◌then◌else◌, List, [], ◌∷◌, ◌++◌, length, refl, ap, sym, ◌∙◌, subst, append_assoc, arith, Some, None, codes, All, bytes_eq}
-use Rattle.dm_check.proofs.Names.{IfErr, IsErr, IsErrAnd, Result, Ok, Err, false≢true, nat_tests, bytes_eq-Decides, Step, Line, EndLine, end_words, EndFits, LineFits, Course}
+use Rattle.dm_check.proofs.Names.{nat_tests, bytes_eq-Decides, Step, Line, EndLine, end_words, EndFits, LineFits, Course}
 use Rattle.dm_check.proofs.Names.{pieces, line_words, text, end_text, text_of_ends, text_of_lines, end_words_are, line_words-are, line_bytes, spelled_bytes, pieces_of_line, IsFull, head_step, has_shape, some_piece, cut_is}
 use Rattle.dm_check.proofs.Names.{first_is, lines_have, ends_have, heads_have, TraceFault, NotALine, NotDue, NotTheEnd, CheckError, FallsBy, RefusedSo, first_line, head_of_line, is_final, Verdict, Ended, Refused, Due}
 use Rattle.dm_check.proofs.Names.{Stands, Falls, is_line_text, behind_line, told, at_end, at_head, begins_group, can_hold, taken, text_ended, judged_from, Stray, StrayedSo}

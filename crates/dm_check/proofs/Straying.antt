@@ -1,7 +1,7 @@
 -- A text that strays from what is due, and what was due there.
-use Rattle.dm_check.proofs.Names.{◌≡◌, ◌<◌, ◌≤◌, ℕ, zero, suc, ◌+◌, Bool, true, false, if◌then◌else◌, List, [], ◌∷◌, ◌++◌, length, take, drop, get_or, drop-cons, refl, ap, sym, ◌∙◌, subst, append_assoc, append-nil, arith, Some, None, All, codes, bytes_eq, Boot, Step, Line, EndLine, EndFits, LineFits, IsFull, pieces, text, text_of_ends, text_of_lines}
-use Rattle.dm_check.proofs.Names.{◌==◌, NotTheEnd, All-nil, All-cons, false≢true, at_end, take-append-drop, WorldState, Went, WearsBy, SaysAs, Course, Due, Verdict, Refused, Stands, Falls, NotDue, TraceFault, CheckError, RefusedBy, RefusedSo, behind_line, begins_group, at_head, can_hold, head_of_line, first_line, is_final, is_line_text, judged_from, told, taken, has_shape, head_step, FallsBy}
-use Rattle.dm_check.proofs.Names.{Wearing, Group, WasDue, Refusal, JudgeError, Stray, before_told, due_behind, end_told, group_told, head_told, line_told, was_due, EndsStray, FallsFrom, GroupStrays, HasChecked, IsAt, IsRefusedSo, IsStray, JudgedBy, JudgedFrom, JudgedThere, LineStrays, NoGroup, StandsTo, StrayedSo, StraysBehind, StraysEnd, StraysHere, TellsFewer, WearsAs, strayed}
+use Rattle.dm_check.proofs.Names.{◌≡◌, ◌<◌, ◌≤◌, ℕ, zero, suc, ◌+◌, Bool, true, false, if◌then◌else◌, List, [], ◌∷◌, ◌++◌, length, take, drop, get_or, drop-cons, refl, ap, sym, ◌∙◌, subst, arith, Some, None, All, codes, bytes_eq, Boot, Step, Line, EndLine, EndFits, LineFits, IsFull, pieces, text_of_ends, text_of_lines}
+use Rattle.dm_check.proofs.Names.{◌==◌, NotTheEnd, All-nil, All-cons, false≢true, at_end, take-append-drop, WorldState, WearsBy, Course, Due, Refused, Stands, Falls, NotDue, TraceFault, CheckError, RefusedBy, behind_line, begins_group, at_head, can_hold, head_of_line, first_line, is_final, judged_from, told, taken, head_step, FallsBy}
+use Rattle.dm_check.proofs.Names.{Wearing, WasDue, Refusal, JudgeError, Stray, due_behind, end_told, group_told, head_told, was_due, EndsStray, FallsFrom, GroupStrays, HasChecked, IsAt, IsStray, JudgedBy, JudgedFrom, JudgedThere, LineStrays, NoGroup, StandsTo, StrayedSo, StraysEnd, TellsFewer, strayed}
 use Rattle.dm_line.specs.declared.line.Line.TheVariants as line
 use Rattle.dm_check.specs.Judge as judge
 use Rattle.dm_check.specs.declared.follow.Stray.TheVariants as stray

@@ -1,5 +1,5 @@
 //! A whole text.
-ghost use Rattle.std.specs.Prelude.{◌≡◌, ◌+◌, ◌^◌, ◌<◌, ◌≤◌, ℕ, List, IfErr, IfOk, None, OnOk, Some, length, true};
+ghost use Rattle.std.specs.Prelude.{◌≡◌, ◌+◌, ◌^◌, ◌<◌, ◌≤◌, List, IfErr, IfOk, None, OnOk, Some, length, true};
 ghost use Rattle.std.specs.List.{All};
 ghost use Rattle.dm_line.specs.declared.line.Line.{Line as TheLine};
 ghost use Rattle.dm_onekernel.specs.Boot.{IsValid};

@@ -1,9 +1,9 @@
 -- The lines before the one at which a text is refused begin what the system prints: line by line, what is due there is what is left
 -- of a run that begins with the lines so far.
 use Rattle.dm_checklaws.proofs.Names.{◌≡◌, ◌<◌, ℕ, zero, suc, ◌+◌, ◌==◌, Bool, true, false, nat_lt, nat_le, ◌&&◌, if◌then◌else◌, List, [], ◌∷◌, ◌++◌, length, codes, get_or, refl, ap, sym, ◌∙◌, subst, append_assoc, append-nil, arith, nat_tests}
-use Rattle.dm_checklaws.proofs.Names.{Some, None, Option, Boot, IsValid, Pid, Step, Line, EndLine, Label, Spelled, Point, first_point, end_lines, joined, pieces, text, end_text, text_of_lines, text_of_ends, head_step, has_shape, bytes_eq}
-use Rattle.dm_checklaws.proofs.Names.{TraceFault, NotALine, NotDue, NotTheEnd, Course, Due, Head, InGroup, End, Verdict, Refused, Judgement, Stands, Falls, if_stands, text_ended, taken, judged, judged_from, told, told_label, told_count, falls_as_step, at_end}
-use Rattle.dm_checklaws.proofs.Names.{at_first_line, at_head, at_line, begins_group, behind_line, can_hold, is_line_text, verdict, verdict_by, by_rule}
+use Rattle.dm_checklaws.proofs.Names.{Some, None, Option, Boot, IsValid, Pid, Step, Line, EndLine, Label, Point, first_point, end_lines, joined, pieces, text, end_text, text_of_lines, text_of_ends, head_step, has_shape, bytes_eq}
+use Rattle.dm_checklaws.proofs.Names.{TraceFault, NotALine, NotDue, NotTheEnd, Course, Due, Head, InGroup, End, Verdict, Refused, Judgement, Stands, Falls, if_stands, taken, judged, judged_from, told, told_label, told_count, falls_as_step, at_end}
+use Rattle.dm_checklaws.proofs.Names.{at_head, at_line, begins_group, behind_line, can_hold, is_line_text, verdict, verdict_by, by_rule}
 use Rattle.std.proofs.lemmas.Slice.Eq.{bytes_eq-Decides}
 use Rattle.dm_onekernel.specs.declared.label.Label.TheVariants as label
 use Rattle.dm_line.specs.declared.line.Line.TheVariants as line

@@ -1,5 +1,5 @@
 -- Where no line routes a message between two machines that count as many as they may, no two count more than that.
-use Rattle.dm_checklaws.proofs.Names.{◌≡◌, ◌≤◌, ◌<◌, ℕ, ◌+◌, ◌==◌, ◌&&◌, Bool, true, false, if◌then◌else◌, List, [], ◌∷◌, length, refl, ap, sym, ◌∙◌, subst, arith, inl, inr, nat_tests, Option, None, Some, Pid, MsgId, MessageKind, OneKernel}
+use Rattle.dm_checklaws.proofs.Names.{◌≡◌, ◌≤◌, ◌<◌, ℕ, ◌==◌, ◌&&◌, Bool, true, false, if◌then◌else◌, List, [], ◌∷◌, length, refl, ap, sym, ◌∙◌, subst, arith, inl, inr, nat_tests, Option, None, Some, Pid, MsgId, MessageKind, OneKernel}
 use Rattle.dm_checklaws.proofs.Names.{Line, View, view_after, Point, label_of, kernel_after, after_line, after, moved, bind-is, Two, or, is_full, full_route, worn_in, seen, worn_alike, ids_of, put_adds, act_of}
 use Rattle.std.proofs.lemmas.Bool.{cases_Bool, and_parts as parts, eqb-true as eq_is}
 use Rattle.dm_line.specs.declared.line.Line.TheVariants as line

@@ -1,7 +1,7 @@
 -- With the line that was due in its place, no line up to it is refused.
-use Rattle.dm_checklaws.proofs.Names.{◌≡◌, ◌≤◌, ◌<◌, ℕ, zero, suc, ◌+◌, ◌-◌, inl, inr, take, length-append, rule_ends, Bool, true, false, if◌then◌else◌, List, [], ◌∷◌, ◌++◌, length, codes, refl, ap, sym, ◌∙◌, subst, arith, Some, None, Option, Boot, Step, Line, EndLine, Spelled, Two, Point, first_point, group_of, worn_in, bind, bind-is}
-use Rattle.dm_checklaws.proofs.Names.{pieces, text, end_text, line_words, line_bytes, spelled_bytes, heads_read, head_step, has_shape, LineFits, EndFits, IsFull, TraceFault, NotDue, NotTheEnd, Course, Due, Head, InGroup, End, Refused, Judgement, Stands, Falls, first_line, head_of_line, is_final}
-use Rattle.dm_checklaws.proofs.Names.{taken, judged, judged_from, told, at_end, at_head, begins_group, at_line, behind_line, can_hold, is_line_text, bytes_eq, verdict, verdict_by, by_rule, led, rule_group, unless_worn}
+use Rattle.dm_checklaws.proofs.Names.{◌≡◌, ◌<◌, ℕ, zero, suc, ◌+◌, ◌-◌, inl, inr, take, length-append, rule_ends, Bool, true, false, if◌then◌else◌, List, [], ◌∷◌, ◌++◌, length, codes, refl, ap, sym, ◌∙◌, subst, arith, Some, None, Option, Boot, Step, Line, EndLine, Spelled, Two, Point, first_point, group_of, worn_in, bind, bind-is}
+use Rattle.dm_checklaws.proofs.Names.{pieces, text, end_text, heads_read, head_step, has_shape, LineFits, EndFits, IsFull, TraceFault, NotDue, NotTheEnd, Course, Due, Head, InGroup, End, Refused, Judgement, Stands, Falls, first_line, head_of_line, is_final}
+use Rattle.dm_checklaws.proofs.Names.{taken, judged, judged_from, told, at_end, at_head, begins_group, behind_line, can_hold, verdict, verdict_by, by_rule, led, rule_group, unless_worn}
 use Rattle.std.specs.Prelude.{◌⊎◌, option_map}
 use Rattle.dm_line.specs.declared.end_line.EndLine.TheVariants as end
 use Rattle.dm_line.specs.declared.line.Line.TheVariants as line

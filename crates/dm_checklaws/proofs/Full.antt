@@ -1,5 +1,5 @@
 -- A group that routes a message between two machines that count as many as they may leaves them with one more.
-use Rattle.dm_checklaws.proofs.Names.{◌≡◌, ◌≤◌, ◌<◌, ℕ, Bool, true, false, nat_le, if◌then◌else◌, List, [], ◌∷◌, length, refl, ap, ◌∙◌, subst, arith, nat_tests, Option, None, Some, Pid, MsgId, MessageKind, Boot, OneKernel, bind-is, Step, Line}
+use Rattle.dm_checklaws.proofs.Names.{◌≡◌, ◌≤◌, ◌<◌, ℕ, Bool, true, false, if◌then◌else◌, List, [], ◌∷◌, length, refl, ap, ◌∙◌, subst, arith, Option, None, Some, Pid, MsgId, MessageKind, Boot, OneKernel, bind-is, Step, Line}
 use Rattle.dm_checklaws.proofs.Names.{View, view_after, Point, label_of, kernel_after, after_line, after, moved, Spelled, group_of, Two, or, is_full, full_route, worn_in, seen, group_after, worn_alike, ids_of, Grows, grows_on, grows_same}
 use Rattle.dm_checklaws.proofs.Names.{seen_grows, put_adds, act_of}
 use Rattle.dm_line.specs.declared.line.Line.TheVariants as line

@@ -1,12 +1,11 @@
 -- A run by the rule goes on by one more directive, one that a schedule can hold and that routes no message between two machines that
 -- count as many as they may.
-use Rattle.dm_checklaws.proofs.Names.{◌≡◌, ◌≢◌, ◌<◌, ℕ, ◌==◌, ◌&&◌, Bool, true, false, not, nat_lt, List, [], ◌∷◌, ◌++◌, length, refl, ap, sym, ◌∙◌, subst, arith, nat_tests, Some, None, Option, All, All-nil, All-cons, All-append}
+use Rattle.dm_checklaws.proofs.Names.{◌≡◌, ◌≢◌, ◌<◌, ℕ, ◌==◌, ◌&&◌, Bool, true, false, not, nat_lt, List, [], ◌∷◌, ◌++◌, length, refl, ap, sym, ◌∙◌, subst, arith, nat_tests, Some, None, Option, All-nil, All-cons, All-append}
 use Rattle.dm_checklaws.proofs.Names.{Boot, IsValid, Step, Directive, Line, Two, all_of, ones, joined, labels, IsKept, IsRun, IsStep, Leads, Spelled, Point, first_point, group_of, worn_in, bind, bind-is, unless_worn, rule_group, by_rule, led}
 use Rattle.dm_checklaws.proofs.Names.{AllHeld, can_hold, group_after}
 use Rattle.std.proofs.lemmas.List.{map-append}
 use Rattle.dm_schedule.specs.declared.Step.TheVariants as step
 use Rattle.dm_schedule.specs.declared.Directive.TheVariants as directive
-use Rattle.dm_line.specs.declared.line.Line.TheVariants as line
 use Rattle.dm_laws.proofs.Runs.{received_once}
 use Rattle.dm_rule.proofs.Groups.{stands_once_always}
 use Rattle.dm_mirror.specs.Run.{IsGood}

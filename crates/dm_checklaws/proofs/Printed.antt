@@ -1,7 +1,7 @@
 -- What the machines print is what the rule says.
 use Rattle.dm_checklaws.proofs.Names.{◌≡◌, ℕ, inl, inr, Bool, List, [], ◌∷◌, ◌++◌, length, refl, ap, sym, ◌∙◌, subst, Some, All, Boot, IsValid, Step, Line, EndLine, all_of, ones, IsStep, Spelled, Point, first_point, group_of, IsWorn}
-use Rattle.dm_checklaws.proofs.Names.{labels, LineFits, text_of_lines, Ran, RanGoes, joined, WorldState, Said, Says, WornOut, ends_of, IsFull, CheckError, Verdict, EndsFit, IsPrinted, IsTrace, RefusedSo, text_behind}
-use Rattle.dm_checklaws.proofs.Names.{ran_begins, ran_goes_on, end_is_said, Went, begins, goes, Does, WearsBy, ComesTo, RefusedBy, SaysAs, by_rule, verdict}
+use Rattle.dm_checklaws.proofs.Names.{labels, LineFits, text_of_lines, Ran, RanGoes, joined, WorldState, Said, Says, WornOut, ends_of, IsFull, Verdict, EndsFit, IsPrinted, IsTrace, text_behind}
+use Rattle.dm_checklaws.proofs.Names.{ran_begins, ran_goes_on, end_is_said, Went, begins, goes, Does, WearsBy, ComesTo, SaysAs, by_rule, verdict}
 use Rattle.dm_schedule.specs.declared.Step.TheVariants as step
 use Rattle.dm_run.specs.Runs as run
 use Rattle.dm_checklaws.proofs.Fulls.{ends_full}

@@ -1,8 +1,8 @@
 -- The verdict on the text of a run by the rule.
 use Rattle.dm_checklaws.proofs.Names.{◌≡◌, ◌≢◌, ◌<◌, ℕ, zero, suc, ◌+◌, ◌==◌, Bool, true, false, not, nat_lt, if◌then◌else◌, List, [], ◌∷◌, ◌++◌, length, refl, ap, sym, ◌∙◌, subst, append_assoc, append-nil, length-append, arith}
 use Rattle.dm_checklaws.proofs.Names.{Some, None, ⊤, codes, All, Option, nat_tests, All-nil, All-cons, All-head, All-tail, Boot, Step, Directive, Line, EndLine, Pass, Two, Todo, Next, all_of, below, pairs_of, here_or_later, next_delivery}
-use Rattle.dm_checklaws.proofs.Names.{pass_begun, takes_turn, next_and_left, next_turn, in_pass, or, begin_pass, settles, next_directive, next_pass, is_over, following, end_lines, next_step, undelivered, IsRun, IsStep, Spelled, Point}
-use Rattle.dm_checklaws.proofs.Names.{first_point, labels, has_mail, is_quiet, group_of, View, worn_in, EndFits, LineFits, pieces, line_words, text, text_of_ends, text_of_lines, line_words-are, line_bytes, spelled_bytes}
+use Rattle.dm_checklaws.proofs.Names.{pass_begun, takes_turn, next_and_left, next_turn, in_pass, or, begin_pass, settles, next_directive, next_pass, is_over, following, end_lines, next_step, IsRun, IsStep, Spelled, Point}
+use Rattle.dm_checklaws.proofs.Names.{first_point, labels, group_of, worn_in, EndFits, LineFits, pieces, line_words, text, text_of_ends, text_of_lines, line_words-are, line_bytes, spelled_bytes}
 use Rattle.dm_checklaws.proofs.Names.{pieces_of_line, ones, joined, IsTwo, IsDirective, IsTodo, machines_group, next_fits, head_step, some_piece, heads_read, first_line, head_of_line, is_final, AllHeld, EndsFit, good_verdict}
 use Rattle.dm_checklaws.proofs.Names.{text_behind, Open, Ended, can_hold, behind_line, judged_from, verdict, verdict_by, by_rule, led, IsHome, HasHome, TracesAreGood, BeginningsAreOpen, RunsAreEnded}
 use Rattle.dm_schedule.specs.declared.Step.TheVariants as step

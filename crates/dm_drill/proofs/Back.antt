@@ -1,5 +1,5 @@
 -- What is written of directives is read as them.
-use Rattle.dm_drill.proofs.Names.{◌≡◌, ◌≤◌, ◌<◌, ◌+◌, ◌*◌, ◌^◌, ℕ, suc, Bool, true, false, List, [], ◌∷◌, ◌++◌, length, take, drop, refl, ap, sym, ◌∙◌, arith, append-nil, append_assoc, All, Option, Some, Step, Directive, Line, LineFits}
+use Rattle.dm_drill.proofs.Names.{◌≡◌, ◌≤◌, ◌<◌, ◌+◌, ◌*◌, ◌^◌, ℕ, suc, Bool, true, false, List, [], ◌∷◌, ◌++◌, length, take, drop, refl, ap, sym, ◌∙◌, arith, append-nil, append_assoc, All, Option, Some, Step, Directive, LineFits}
 use Rattle.dm_drill.proofs.Names.{directive_text, schedule_text}
 use Rattle.dm_drill.specs.Schedules.{CanStand, SchedulesAreRead}
 use Rattle.std.proofs.Common.{cond, ◌&&◌, ◌||◌, ap₂}
@@ -18,7 +18,7 @@ use Rattle.dm_text.proofs.Numbers.{read-decimal}
 use Rattle.dm_text.proofs.Pieces.{AreWords, above, above-append, above-le}
 use Rattle.dm_text.proofs.WordsBack.{below_u32, word_decimal}
 use Rattle.dm_text.specs.Text.{spaced, spelled_line}
-use Rattle.dm_text.specs.Words.{PidFits, pid_word}
+use Rattle.dm_text.specs.Words.{pid_word}
 use Rattle.dm_text.specs.Written.{line_words}
 use Rattle.dm_line.specs.declared.line.Line.TheVariants as line
 use Rattle.dm_link.specs.Names.{pid_of}
@@ -41,7 +41,7 @@ use Rattle.dm_schedule.specs.declared.LineFault.{LineFault}
 use Rattle.dm_schedule.specs.declared.LineFault.TheVariants.{OutOfRange, SameMachine}
 use Rattle.dm_schedule.specs.declared.Step.TheVariants as step
 use Rattle.dm_schedule.specs.declared.keywords.Keyword.{Keyword}
-use Rattle.dm_schedule.specs.declared.keywords.Keyword.TheVariants.{CallOff, Deliver, Migrate, Rest, Round, Settle, Spin, Tick, Turn}
+use Rattle.dm_schedule.specs.declared.keywords.Keyword.TheVariants.{CallOff, Deliver, Migrate, Rest, Spin, Tick, Turn}
 
 -- ---- lines and words
 

@@ -1,5 +1,5 @@
 -- One notion of a run carries to another what is said of a drill by it.
-use Rattle.dm_drill.proofs.Names.{◌≡◌, ◌↔◌, ◌⊎◌, inl, inr, ℕ, Bool, true, List, [], Option, Boot, Directive, Line, World, Report, Notion, TellsQuiet, SumsUp, DrillIsBegun, DrillIsOfFirst, DrillIsWhole, DrillWears, Carried, Carries}
+use Rattle.dm_drill.proofs.Names.{◌≡◌, ◌↔◌, ◌⊎◌, inl, inr, ℕ, Bool, true, List, [], Option, Boot, Directive, Line, World, Report, Notion, SumsUp, DrillIsBegun, DrillIsOfFirst, DrillIsWhole, DrillWears, Carried, Carries}
 use Rattle.dm_drill.proofs.Names.{carried_wears, carried_world}
 
 both_ways : (x y z : Type 0) → x ↔ y → y ↔ z → x ↔ z

@@ -1,6 +1,6 @@
 -- A drill goes on, group by group: as a run does, with what is counted beside what is printed.
 use Rattle.dm_drill.proofs.Names.{◌≡◌, ◌↔◌, ℕ, Bool, true, false, List, [], ◌∷◌, ◌++◌, length, take, drop, refl, ap, ◌∙◌, sym, subst, inl, inr, All, All-nil, false≢true, Option, Some, IsErr, IsErrAnd, Result, Ok, Err, World, Stop, NoMemory}
-use Rattle.dm_drill.proofs.Names.{WriteFault, Worn, Boot, Step, Directive, Line, LineFits, joined, IsWorld, world_state, WorldState, first_world, appended, Offered, Way, first_way, Does, GoesOn, HasCome, HasEnded, StopsSo, by_world, Report}
+use Rattle.dm_drill.proofs.Names.{WriteFault, Worn, Boot, Step, Directive, Line, LineFits, joined, IsWorld, world_state, WorldState, first_world, appended, Offered, Way, first_way, Does, GoesOn, HasCome, StopsSo, by_world, Report}
 use Rattle.dm_drill.proofs.Names.{with_group, with_groups, nothing, told, Came, Ended, IsCounted, IsThrough, DrillIsOfFirst, Stopped, TellsQuiet, text_shown, Totals, comes_first, comes_on, led_on, wears_there, world_is_quiet, some_left}
 use Rattle.dm_run.proofs.Names.{append-nil}
 use Rattle.dm_run.proofs.Printing as run

@@ -1,5 +1,5 @@
 -- Directives as a schedule has them, a line each.
-use Rattle.std.specs.Prelude.{◌≡◌, ◌≢◌, ⊤, ℕ, ◌<◌, ◌≤◌, ◌*◌, ◌^◌, codes, List, [], ◌∷◌, ◌++◌, flat_map, length}
+use Rattle.std.specs.Prelude.{◌≡◌, ◌≢◌, ⊤, ℕ, ◌<◌, ◌≤◌, ◌*◌, ◌^◌, codes, List, ◌++◌, flat_map, length}
 use Rattle.std.specs.Fmt.{decimal}
 use Rattle.std.specs.List.{All}
 use Rattle.dm_schedule.specs.declared.Step.TheVariants as step

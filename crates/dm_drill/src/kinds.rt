@@ -1,7 +1,5 @@
 //! How many messages of each kind were put.
 ghost use Rattle.std.specs.Prelude.{◌≡◌, ◌++◌, OnOk, map};
-ghost use Rattle.std.specs.Fmt.{decimal};
-ghost use Rattle.dm_message.specs.Kinds.{word_of};
 ghost use Rattle.dm_drill.specs.Kinds.{kind_line, kind_lines, kind_shown, no_kinds, none_of, one_more_of, with_put};
 
 use crate::summary::write_number;

@@ -1,4 +1,7 @@
 //! The lines at the end of a run.
+ghost use Rattle.std.specs.Prelude.{◌≡◌};
+ghost use Rattle.dm_line.specs.Ends.{is_at_home};
+
 use arrayvec::ArrayVec;
 use dm_link::{Link, Pid};
 use dm_lists::Items;
@@ -12,6 +15,19 @@ pub enum Standing {
     Here,
     Leaving,
     Arriving,
+}
+
+impl Standing {
+    /// Whether what stands so on machine m is here on machine 0, where the servers begin.
+    pub fn is_at_home(self, m: u8) -> bool
+        ensures { result ≡ is_at_home m self }
+    {
+        match self {
+            Standing::Here => m == 0,
+            Standing::Leaving => false,
+            Standing::Arriving => false,
+        }
+    }
 }
 
 /// What a process does.

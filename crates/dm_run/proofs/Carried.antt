@@ -1,5 +1,5 @@
 -- One notion of a run carries to another what is said by it.
-use Rattle.dm_run.proofs.Names.{◌≡◌, ◌↔◌, ◌⊎◌, inl, inr, ℕ, ◌++◌, List, [], ap, ◌∙◌, sym, subst, All, Option, None, Some, Boot, Directive, EndLine, Line, EndFits, text_of_ends, text_of_lines, joined, World, appended}
+use Rattle.dm_run.proofs.Names.{◌≡◌, ◌↔◌, ◌⊎◌, inl, inr, ℕ, ◌++◌, List, [], ap, ◌∙◌, subst, All, Option, None, Some, Boot, Directive, EndLine, Line, EndFits, text_of_ends, text_of_lines, joined, World, appended}
 use Rattle.dm_run.proofs.Names.{Notion, StandsFor, IsWhole, IsOfFirst, IsBegun, WearsAfter, RunWears, PictureIsWhole, IsBeforeWorn}
 
 -- where a run has come by one notion, it has by the other, and all is alike there

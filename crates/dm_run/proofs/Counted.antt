@@ -1,5 +1,5 @@
 -- Each elementary directive counts as one.
-use Rattle.dm_run.proofs.Names.{◌≡◌, ℕ, ◌+◌, List, [], ◌∷◌, ap, length, sym, arith, Option, None, Some, Result, Ok, Err, Packet, PacketError, packet_of, bytes_at, after_mark, Boot, Step, Line, Data, Ack, Acts, Goes}
+use Rattle.dm_run.proofs.Names.{◌≡◌, ℕ, ◌+◌, List, [], ◌∷◌, ap, length, sym, Option, None, Some, Result, Ok, Err, Packet, PacketError, packet_of, bytes_at, after_mark, Boot, Step, Line, Data, Ack, Acts, Goes}
 use Rattle.dm_run.proofs.Names.{MeetsSome, IsWornOut, WorldState, Said, Happened, Says, WornOut, acted, turned, delivers, reads, world_step}
 use Rattle.dm_packet.specs.declared.Packet.TheVariants as packet
 use Rattle.dm_schedule.specs.declared.Step.TheVariants as step

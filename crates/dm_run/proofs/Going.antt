@@ -1,6 +1,6 @@
 -- A run of the world goes on, group by group, to its end.
-use Rattle.dm_run.proofs.Names.{◌≡◌, ◌≤◌, ◌<◌, ℕ, ◌+◌, ◌*◌, ◌^◌, false, get_or, slice_get-get_or, cursor_of, NoneLeft, List, [], ◌∷◌, ◌++◌, length, refl, ap, ◌∙◌, sym, subst, Some, All, Boot, IsValid, Step, Directive, Line, IsStep, IsFor, Cursor, World, IsWorld, world_state, WorldState}
-use Rattle.dm_run.proofs.Names.{MeetsSome, AreReadBack, gave, AreWhole, MayStep, first_world, world_step, Way, Does, WearsBy, Went, begins, goes, Led, starts, turns, does, first_way, EndsMay, RunsGo, GoesOn, Stays, IsDone, IsAtStart, IsRunning}
+use Rattle.dm_run.proofs.Names.{◌≡◌, ◌≤◌, ◌<◌, ℕ, ◌+◌, ◌*◌, ◌^◌, false, get_or, slice_get-get_or, cursor_of, NoneLeft, List, [], ◌∷◌, ◌++◌, length, sym, subst, All, Boot, IsValid, Step, Directive, Line, IsStep, IsFor, Cursor, World, IsWorld, world_state, WorldState}
+use Rattle.dm_run.proofs.Names.{MeetsSome, AreReadBack, gave, AreWhole, MayStep, first_world, world_step, Way, Does, WearsBy, Went, begins, goes, Led, starts, turns, does, first_way, EndsMay, RunsGo, GoesOn, Stays, IsAtStart, IsRunning}
 use Rattle.dm_run.proofs.Names.{HasCome, HasEnded, WearsAfter, by_world, Answers, OrNoMemory, StopsWorn, Result, Ok, Err, IsErr, IsErrAnd, IfErr, false≢true}
 use Rattle.dm_node.specs.declared.stop.Stop as stopping
 use Rattle.dm_node.specs.declared.stop.Stop.TheVariants as stop

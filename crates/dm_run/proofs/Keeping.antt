@@ -1,5 +1,5 @@
 -- The memory of lines is no part of what a world is.
-use Rattle.dm_run.proofs.Names.{◌≡◌, false, ap, sym, ◌∙◌, subst, Boot, Line, Vec, Global, World, IsWorld, world_state, WorldState}
+use Rattle.dm_run.proofs.Names.{◌≡◌, false, ap, sym, ◌∙◌, subst, Boot, Line, Vec, Global, World, IsWorld, world_state}
 
 same_world : (w : World) (lines : Vec Line Global) → IsWorld w → IsWorld (record w { lines = lines })
 same_world w lines h = record { valid = h.valid; machines = h.machines; nodes = h.nodes }

@@ -1,5 +1,5 @@
 -- What is kept of a run that came to its end, or to a worn pair, has its picture.
-use Rattle.dm_run.proofs.Names.{◌≡◌, ℕ, List, [], ◌∷◌, ◌++◌, length, refl, ap, sym, subst, ◌∙◌, fold-append, false≢true, IsErr, IsErrAnd, Result, Ok, Err, Pid, Boot, Step, Directive, Line, Kept, keep, kept_of, none_kept, chart_of, picture_of, boot_pids, WorldState}
+use Rattle.dm_run.proofs.Names.{◌≡◌, ℕ, List, [], ◌∷◌, ◌++◌, length, ap, sym, subst, ◌∙◌, fold-append, false≢true, IsErr, IsErrAnd, Result, Ok, Err, Pid, Boot, Step, Directive, Line, Kept, keep, kept_of, none_kept, picture_of, boot_pids, WorldState}
 use Rattle.dm_run.proofs.Names.{Way, Does, GoesOn, HasCome, HasEnded, StopsWorn, Keeps, HasWorn, IsCollected, IsBeforeWorn, PictureIsWhole, by_world}
 use Rattle.dm_chart.specs.declared.chart.Reach.{Reach}
 use Rattle.dm_chart.specs.declared.chart.Reach.TheVariants as reach

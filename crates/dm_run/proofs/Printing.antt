@@ -1,7 +1,7 @@
 -- The text of a run's groups, and of the lines at its end.
-use Rattle.dm_run.proofs.Names.{◌≡◌, inl, inr, ℕ, List, [], ◌∷◌, ◌++◌, length, take, drop, refl, ap, ◌∙◌, sym, subst, append_assoc, append-nil, take-append-drop, All, All-nil, All-append, Option, None, Some, false≢true, IsErr, IsErrAnd, Result, Ok, Err}
+use Rattle.dm_run.proofs.Names.{◌≡◌, inl, inr, ℕ, List, [], ◌∷◌, ◌++◌, take, drop, refl, ap, ◌∙◌, sym, subst, append_assoc, append-nil, take-append-drop, All, All-nil, All-append, Option, None, Some, false≢true, IsErr, IsErrAnd, Result, Ok, Err}
 use Rattle.dm_run.proofs.Names.{Boot, Step, Directive, EndLine, Line, EndFits, LineFits, joined, text, text_of_ends, text_of_lines, World, IsWorld, world_state, WorldState, world_end_lines, appended, Stop, NoMemory, WriteFault, Worn}
-use Rattle.dm_run.proofs.Names.{Way, first_way, first_world, Does, GoesOn, HasCome, HasEnded, IsThrough, IsWritten, Offered, Came, Ended, Stopped, StopsSo, IsOfFirst, RunWears, BlamesBy, Blames, by_world}
+use Rattle.dm_run.proofs.Names.{Way, first_way, first_world, Does, GoesOn, HasCome, IsThrough, IsWritten, Offered, Came, Ended, Stopped, StopsSo, IsOfFirst, by_world}
 use Rattle.dm_run.proofs.Writing.{appended_twice, some_left}
 use Rattle.dm_run.proofs.Going.{comes_first, comes_on, led_on, wears_there}
 

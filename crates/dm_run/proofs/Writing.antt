@@ -1,5 +1,5 @@
 -- Bytes that are written piece by piece.
-use Rattle.dm_run.proofs.Names.{◌≡◌, ℕ, ◌+◌, ◌-◌, ◌<◌, ◌≤◌, List, ◌++◌, length, take, drop, refl, ap, sym, ◌∙◌, append_assoc, arith, take-append-drop, take-take, drop-take, take_rest, length-append, length-drop, Option, appended}
+use Rattle.dm_run.proofs.Names.{◌≡◌, ℕ, ◌+◌, ◌-◌, ◌<◌, ◌≤◌, List, ◌++◌, length, take, drop, refl, ap, sym, ◌∙◌, append_assoc, arith, take-append-drop, take-take, drop-take, take_rest, length-drop, Option, appended}
 use Rattle.std.proofs.Common.{None, Some}
 
 -- two pieces, one after the other

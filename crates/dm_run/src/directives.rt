@@ -1,5 +1,5 @@
 //! Running directives, and writing what happens.
-ghost use Rattle.std.specs.Prelude.{◌≡◌, ◌≤◌, Some, length};
+ghost use Rattle.std.specs.Prelude.{◌≤◌, Some, length};
 ghost use Rattle.std.specs.List.{All};
 ghost use Rattle.dm_run.specs.Runs.{IsFor};
 ghost use Rattle.dm_run.specs.Coming.{Blames, Came, Ended, StopsThere};

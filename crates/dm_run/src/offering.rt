@@ -1,9 +1,8 @@
 //! Offering the text of lines to a sink.
-ghost use Rattle.std.specs.Prelude.{◌≡◌, ◌≤◌, IfErr, OnOk};
+ghost use Rattle.std.specs.Prelude.{◌≤◌};
 ghost use Rattle.std.specs.List.{All};
 ghost use Rattle.dm_text.specs.Fits.{EndFits, HidesNothing, LineFits};
 ghost use Rattle.dm_text.specs.Text.{text_of_ends, text_of_lines};
-ghost use Rattle.dm_outside.specs.Outside.{RoseOrFull};
 ghost use Rattle.dm_run.specs.Coming.{Blames, Offered, StopsThere};
 
 use crate::fit::{ends_fit, lines_fit};

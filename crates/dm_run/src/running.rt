@@ -47,8 +47,26 @@ pub fn step_on(world: &mut World, step: &Step) -> Result<Vec<Line>, WorldStop>
     ensures worn { IfErr result (λ stop. StopsWorn world.old.boot (world_state world.old) step.now stop) }
     ensures stopped { OnErr result (world.new.stopped ≡ true) }
 {
-    let lines = world.step(step)?;
+    let lines = go_on(world, step)?;
     lines_fit(lines.as_slice());
+    Ok(lines)
+}
+
+/// Does an elementary directive, whose lines aren't looked at.
+fn go_on(world: &mut World, step: &Step) -> Result<Vec<Line>, WorldStop>
+    requires law { RunsGo }
+    requires running { IsRunning world.old }
+    requires step { IsStep (length world.old.boot.machines) step.now }
+    requires groups { world.old.groups < 2 ^ 127 }
+    ensures does { IfOk result (λ lines. Does world.old.boot (world_state world.old) step.now lines.items (world_state world.new)) }
+    ensures running { OnOk result (IsRunning world.new) }
+    ensures groups { OnOk result (world.new.groups ≡ world.old.groups + 1) }
+    ensures alone { OnOk result (ActsAlone (acts_on world.old.boot (world_state world.old) step.now) (world_state world.old) (world_state world.new)) }
+    ensures boot { world.new.boot ≡ world.old.boot }
+    ensures worn { IfErr result (λ stop. StopsWorn world.old.boot (world_state world.old) step.now stop) }
+    ensures stopped { OnErr result (world.new.stopped ≡ true) }
+{
+    let lines = world.step(step)?;
     Ok(lines)
 }
 
@@ -64,7 +82,7 @@ pub fn do_step(world: &mut World, step: &Step) -> Result<Vec<Line>, Stop>
     ensures boot { world.new.boot ≡ world.old.boot }
     ensures stops { IfErr result (λ stop. StopsSo world.old.boot (world_state world.old) step.now stop) }
 {
-    match step_on(world, step) {
+    match go_on(world, step) {
         Ok(lines) => Ok(lines),
         Err(WorldStop::NoMemory(no)) => Err(Stop::NoMemory(no)),
         Err(WorldStop::Worn { from, to }) => Err(Stop::Worn { from, to }),

@@ -2,7 +2,7 @@
 use Rattle.dm_world.proofs.Names.{◌≡◌, ℕ, zero, suc, ◌+◌, ◌<◌, ◌≤◌, Bool, true, false, ◌==◌, if◌then◌else◌, List, [], ◌∷◌, ◌++◌, length, take, drop, get_or, refl, sym, ap, subst, ◌∙◌, inl, inr, arith, append-nil, append_assoc, drop-cons}
 use Rattle.dm_world.proofs.Names.{take-suc, slice_get, All, Option, None, Some, eqb_tells, nat_tests, get_or_from_slice_get, slice_get-get_or, slice_get_within, Message, MsgId, Named, IsLawfulNamed, EndLine, or, before_zeros, trimmed, Link}
 use Rattle.dm_world.proofs.Names.{Pid, SaysSome, WorldState, first_says, home_with, homes_with, joined_below, lines_in, link_at, link_lines, name_lines, names_of, slot_line}
-use Rattle.dm_world.proofs.Names.{Boot, Err, Ok, Result, option_map, option_map_or, ◌^◌, ◌&&◌}
+use Rattle.dm_world.proofs.Names.{Boot, Err, Ok, Result, option_map, option_map_or, ◌^◌}
 use Rattle.std.specs.Option.{IfSome}
 use Rattle.std.specs.Prelude.{IfOk}
 use Rattle.dm_memory.specs.declared.NoMemory.{NoMemory}
@@ -14,8 +14,9 @@ use Rattle.dm_resident.specs.declared.Resident.{Resident}
 use Rattle.dm_resident.specs.declared.Resident.TheVariants as resident
 use Rattle.dm_migrate.specs.Arrival.{Arrival, is_process_coming, restarted}
 use Rattle.dm_migrate.specs.declared.arriving.Wanted.TheVariants.{Nothing}
+use Rattle.dm_line.specs.Ends.{is_at_home}
 use Rattle.dm_line.specs.declared.end_line.Standing.{Standing}
-use Rattle.dm_world.specs.Ends.{HasPlainEnd, come_lines, come_whole, lists_of, resident_lines, sent_lines, server_come, stands_here}
+use Rattle.dm_world.specs.Ends.{HasPlainEnd, come_lines, come_whole, lists_of, resident_lines, sent_lines, server_come}
 use Rattle.dm_line.specs.declared.end_line.EndLine.TheVariants as end
 use Rattle.dm_line.specs.declared.end_line.Standing.TheVariants as standing
 
@@ -158,10 +159,10 @@ queue_is (resident.Board b) = refl
 queue_is (resident.Manager g) = refl
 
 -- how many messages a server has sent, and where it is
-pub server_at_home : (m : ℕ) (p : Pid) (s : Standing) (sent : ℕ) (old new : List EndLine) → ((m == 0) && stands_here s) ≡ true → new ≡ old ++ end.Server p sent ∷ [] → new ≡ old ++ sent_lines m p s sent
+pub server_at_home : (m : ℕ) (p : Pid) (s : Standing) (sent : ℕ) (old new : List EndLine) → is_at_home m s ≡ true → new ≡ old ++ end.Server p sent ∷ [] → new ≡ old ++ sent_lines m p s sent
 server_at_home m p s sent old new home e = e ∙ ap (λ (t : Bool). old ++ end.Server p sent ∷ (if t then [] else end.Place p m s ∷ [])) (sym home)
 
-pub server_elsewhere : (m : ℕ) (p : Pid) (s : Standing) (sent : ℕ) (old one new : List EndLine) → ((m == 0) && stands_here s) ≡ false → one ≡ old ++ end.Server p sent ∷ [] → new ≡ one ++ end.Place p m s ∷ [] → new ≡ old ++ sent_lines m p s sent
+pub server_elsewhere : (m : ℕ) (p : Pid) (s : Standing) (sent : ℕ) (old one new : List EndLine) → is_at_home m s ≡ false → one ≡ old ++ end.Server p sent ∷ [] → new ≡ one ++ end.Place p m s ∷ [] → new ≡ old ++ sent_lines m p s sent
 server_elsewhere m p s sent old one new away e f =
     two_said (end.Server p sent ∷ []) (end.Place p m s ∷ []) old one new e f ∙ ap (λ (t : Bool). old ++ end.Server p sent ∷ (if t then [] else end.Place p m s ∷ [])) (sym away)
 

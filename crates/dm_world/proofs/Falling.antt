@@ -1,8 +1,8 @@
 -- Each step of a directive leaves fewer steps.
-use Rattle.dm_world.proofs.Names.{Pid, keeps_over, over_in, with_over, Why, ◌≡◌, ℕ, zero, suc, ◌+◌, ◌-◌, ◌*◌, ◌^◌, ◌<◌, ◌≤◌, Bool, true, false, ◌==◌, List, [], ◌∷◌, ◌++◌, length, refl, sym, ap, subst, ◌∙◌, inl, inr, arith, mul-suc, Result}
+use Rattle.dm_world.proofs.Names.{Pid, keeps_over, over_in, with_over, Why, ◌≡◌, ℕ, zero, suc, ◌+◌, ◌-◌, ◌^◌, ◌<◌, ◌≤◌, Bool, true, false, ◌==◌, List, [], ◌∷◌, ◌++◌, length, refl, sym, ap, subst, ◌∙◌, inl, inr, arith, Result}
 use Rattle.dm_world.proofs.Names.{⊤, ◌&&◌, if◌then◌else◌, option_map, Option, None, Some, Ok, Err, eqb_tells, leb_tells, slice_get_cases, Packet, PacketError, packet_of, Data, Ack, Sent, bytes_at, just_put, marked, after_mark, is_pair}
-use Rattle.dm_world.proofs.Names.{Boot, Step, Out, Acted, Acts, Goes, Worn, spoken, with_packet, sum_below, Pass, Round, Settle, Cursor, One, Passing, Place, Packets, Turns, End, Falls, IsFresh, LeavesFewer, LeavesNoMore, SettleGoes}
-use Rattle.dm_world.proofs.Names.{TakesTurn, room, room_of, seen_count, turns_at, turns_of, first_unseen, Happened, Said, Says, WorldState, WornOut, acted, delivers, reads, turned, world_step, Rest}
+use Rattle.dm_world.proofs.Names.{Boot, Step, Out, Acted, Acts, Goes, Worn, spoken, with_packet, sum_below, Pass, Round, Settle, Cursor, One, Passing, Packets, Turns, End, Falls, IsFresh, LeavesFewer, LeavesNoMore}
+use Rattle.dm_world.proofs.Names.{TakesTurn, room, room_of, seen_count, turns_of, first_unseen, Happened, Said, Says, WorldState, WornOut, acted, delivers, reads, turned, world_step, Rest}
 use Rattle.dm_world.proofs.Names.{asks_at, seat_of}
 use Rattle.dm_packet.specs.declared.Packet.TheVariants as packet
 use Rattle.dm_schedule.specs.declared.Step.TheVariants as step

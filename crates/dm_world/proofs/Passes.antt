@@ -1,8 +1,8 @@
 -- What comes next of a pass, and where it is over.
-use Rattle.dm_world.proofs.Names.{◌≡◌, ◌≢◌, ℕ, zero, suc, ◌+◌, ◌-◌, ◌*◌, ◌<◌, ◌≤◌, ◌==◌, ◌&&◌, not, Bool, true, false, List, [], ◌∷◌, drop, length, refl, sym, ap, subst, ◌∙◌, arith, ⊤, ◌||◌, if◌then◌else◌, IsSome, Option, None, Some}
-use Rattle.dm_world.proofs.Names.{false≢true, nat_tests, Step, Directive, Pass, Round, Settle, Next, Todo, Two, below, begin_pass, in_pass, is_over, next_delivery, next_directive, next_pass, next_turn, or, settles, takes_turn, Cursor}
-use Rattle.dm_world.proofs.Names.{Passing, Place, Packets, Turns, End, FirstIs, FirstTurnIs, InPassIs, NextIs, NextPassIs, RoundGoes, as_next, found_at, machines_left, pairs_at, pairs_left, todo_at, turn_at, all_heard, world_has_mail}
-use Rattle.dm_world.proofs.Names.{world_is_quiet, world_next_step, world_undelivered, WorldState, Seen, at_rest, Rest, world_seen}
+use Rattle.dm_world.proofs.Names.{◌≡◌, ◌≢◌, ℕ, suc, ◌+◌, ◌-◌, ◌<◌, ◌≤◌, ◌==◌, ◌&&◌, not, Bool, true, false, List, [], drop, length, refl, sym, ap, ◌∙◌, arith, ⊤, ◌||◌, if◌then◌else◌, IsSome, Option, None, Some}
+use Rattle.dm_world.proofs.Names.{false≢true, nat_tests, Step, Directive, Pass, Round, Settle, Next, Todo, Two, below, begin_pass, in_pass, next_delivery, next_directive, next_pass, next_turn, or, settles, takes_turn, Cursor}
+use Rattle.dm_world.proofs.Names.{Packets, FirstTurnIs, InPassIs, NextPassIs, RoundGoes, as_next, pairs_at, todo_at, all_heard}
+use Rattle.dm_world.proofs.Names.{world_is_quiet, WorldState, Seen, at_rest, Rest, world_seen}
 use Rattle.dm_schedule.specs.declared.Step.TheVariants as step
 use Rattle.dm_world.proofs.Passing.{drop-below, past_below, rows_are_pairs}
 

@@ -101,20 +101,28 @@ row_some n w a b k rest h apart some =
     ∙ ap (λ o. here_or_later (record { from = a; to = b }) (row_at n a (b + 1) rest) o (next_delivery (world_undelivered w) (row_at n a (b + 1) rest))) some
     ∙ ap (λ ps. Some (step.Deliver a b k, ps)) (sym (row_pair n a b rest h apart))
 
--- no pair of a row has such a packet
-pub row_nothing : (w : WorldState) (a : ℕ) (bs : List ℕ) (rest : List Two) → ((b : ℕ) → world_undelivered w a b ≡ None)
-    → next_delivery (world_undelivered w) (pairs_with a bs ++ rest) ≡ next_delivery (world_undelivered w) rest
-row_nothing w a [] rest h = refl
-row_nothing w a (b ∷ bs) rest h =
-    elim (eqb_tells a b) [
-      | inl t ↦
-          ap (λ (c : Bool). next_delivery (world_undelivered w) ((if c then pairs_with a bs else record { from = a; to = b } ∷ pairs_with a bs) ++ rest)) t.0
-          ∙ row_nothing w a bs rest h
-      | inr t ↦
-          ap (λ (c : Bool). next_delivery (world_undelivered w) ((if c then pairs_with a bs else record { from = a; to = b } ∷ pairs_with a bs) ++ rest)) t.0
-          ∙ ap (λ o. here_or_later (record { from = a; to = b }) (pairs_with a bs ++ rest) o (next_delivery (world_undelivered w) (pairs_with a bs ++ rest))) (h b)
-          ∙ row_nothing w a bs rest h
-    ]
-
 pub row_over : (n a b : ℕ) (rest : List Two) → n ≤ b → row_at n a b rest ≡ rest
 row_over n a b rest h = ap (λ xs. pairs_with a xs ++ rest) (past_below n b h)
+
+-- pairs that have no such packet are passed over
+row_step : (n : ℕ) (w : WorldState) (a b : ℕ) (rest : List Two) → world_undelivered w a b ≡ None
+    → next_delivery (world_undelivered w) (row_at n a b rest) ≡ next_delivery (world_undelivered w) (row_at n a (b + 1) rest)
+row_step n w a b rest none =
+    elim (leb_tells (suc b) n) [
+      | inl t ↦
+          elim (eqb_tells a b) [
+            | inl e ↦ ap (next_delivery (world_undelivered w)) (row_same n a b rest t.1 e.1)
+            | inr e ↦ row_none n w a b rest t.1 e.1 none
+          ]
+      | inr t ↦
+          let past : n ≤ b = (let f = t.1 in omega (arith, f)) in
+          ap (next_delivery (world_undelivered w)) (row_over n a b rest past ∙ sym (row_over n a (b + 1) rest (omega (arith, past))))
+    ]
+
+pub row_skip : (n : ℕ) (w : WorldState) (a c k : ℕ) (rest : List Two) → ((b : ℕ) → c ≤ b → b < c + k → world_undelivered w a b ≡ None)
+    → next_delivery (world_undelivered w) (row_at n a c rest) ≡ next_delivery (world_undelivered w) (row_at n a (c + k) rest)
+row_skip n w a c zero rest h = ap (λ (b : ℕ). next_delivery (world_undelivered w) (row_at n a b rest)) (let e : c ≡ c + 0 = omega arith in e)
+row_skip n w a c (suc k) rest h =
+    row_skip n w a c k rest (λ b from below. h b from (omega (arith, below)))
+    ∙ row_step n w a (c + k) rest (h (c + k) (omega arith) (omega arith))
+    ∙ ap (λ (b : ℕ). next_delivery (world_undelivered w) (row_at n a b rest)) (let e : c + k + 1 ≡ c + suc k = omega arith in e)

@@ -1,5 +1,5 @@
 -- The machine where the manager is.
-use Rattle.dm_world.proofs.Names.{◌≡◌, ℕ, zero, suc, ◌+◌, ◌<◌, Bool, true, false, if◌then◌else◌, refl, ap, subst, ◌∙◌, inl, inr, arith, is_some, Option, None, Some, eqb_tells, or, NodeState, manager, manager_in, seat_of, sym, length, List, Node, World, WorldState, IsWorld, MayAskAt, MayAskMove, IsLawfulState, node_in}
+use Rattle.dm_world.proofs.Names.{◌≡◌, ℕ, zero, suc, ◌+◌, ◌<◌, Bool, true, false, if◌then◌else◌, ap, subst, ◌∙◌, inl, inr, arith, is_some, Option, None, Some, eqb_tells, or, NodeState, manager, manager_in, seat_of, sym, length, List, Node, World, WorldState, IsWorld, MayAskAt, MayAskMove, IsLawfulState, node_in}
 
 abbrev pub has_manager : (ℕ → NodeState) → ℕ → Bool
 has_manager nodes m = is_some (manager_in ((nodes m).kernel.records manager))

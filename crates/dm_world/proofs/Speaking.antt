@@ -1,5 +1,5 @@
 -- What a machine gives is said, one after the other.
-use Rattle.dm_world.proofs.Names.{◌≡◌, ℕ, ◌+◌, ◌<◌, List, [], ◌∷◌, ◌++◌, length, get_or, drop, drop_more, refl, sym, ap, subst, ◌∙◌, append_assoc, append-nil, Packet, Sent, Line, Out, Sends, Spoken, packet_line, spoken, with_packet, Spoke}
+use Rattle.dm_world.proofs.Names.{◌≡◌, ℕ, ◌+◌, ◌<◌, List, [], ◌∷◌, ◌++◌, length, get_or, drop, drop_more, sym, ap, subst, ◌∙◌, append_assoc, Packet, Sent, Line, Out, Sends, Spoken, packet_line, spoken, with_packet}
 use Rattle.dm_node.specs.declared.out.Out.TheVariants.{Says}
 
 -- behind these lines it comes to the same as that behind those

@@ -1,10 +1,9 @@
 -- A machine has acted, and what it gave is said: that is the world's step.
-use Rattle.dm_world.proofs.Names.{Bool, Pid, NodeState, at_machine, eqb_tells, if◌then◌else◌, inl, inr, refl, ended_in, Why, over_in, with_over, is_at, cond, common_steps, arith, pid_cmp, pid_eq, true, false, ◌≡◌, ℕ, ◌+◌, List, [], ◌∷◌}
-use Rattle.dm_world.proofs.Names.{length, sym, ap, subst, ◌∙◌, Vec, with_items, with_items_is, Global, Option, None, Some, Err, Packet, Sent, bytes_at, after_mark, packets_on, Boot, IsValid, Line, Step, Node, Stop, Out, arrives_packet}
-use Rattle.dm_world.proofs.Names.{Acted, Acts, Goes, Worn, IsWornSome, spoken, World, ActedAt, ActedSome, Answers, AreNodes, IsWorld, IsWornOut, Meets, MeetsSome, TurnAnswers, node_in, world_state, Says, WorldState, WornOut, acted}
+use Rattle.dm_world.proofs.Names.{Bool, Pid, NodeState, if◌then◌else◌, refl, ended_in, Why, over_in, with_over, is_at, cond, common_steps, arith, pid_cmp, pid_eq, true, false, ◌≡◌, ℕ, ◌+◌, List, [], ◌∷◌}
+use Rattle.dm_world.proofs.Names.{length, sym, ap, subst, ◌∙◌, Vec, with_items, with_items_is, Global, Option, None, Some, Packet, Sent, bytes_at, after_mark, packets_on, Boot, IsValid, Line, Step, Node, Out, arrives_packet}
+use Rattle.dm_world.proofs.Names.{Acted, Acts, Goes, Worn, spoken, World, ActedAt, ActedSome, AreNodes, IsWorld, Meets, MeetsSome, node_in, world_state, Says, WorldState, acted}
 use Rattle.dm_world.proofs.Names.{delivers, turned}
 use Rattle.dm_line.specs.declared.line.Line.TheVariants as line
-use Rattle.dm_node.specs.declared.stop.Stop.TheVariants as stop
 use Rattle.dm_node.specs.declared.out.Out.TheVariants as out
 use Rattle.dm_world.proofs.Delivering.{Arriving}
 use Rattle.dm_node.proofs.States.{at_same}

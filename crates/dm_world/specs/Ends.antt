@@ -1,5 +1,5 @@
 -- The lines at the end of a run, by what the machines have.
-use Rattle.std.specs.Prelude.{ℕ, zero, suc, ◌≡◌, ◌<◌, ◌≤◌, ◌+◌, ◌-◌, ◌/◌, ◌^◌, ◌==◌, Bool, true, false, if◌then◌else◌, drop, List, [], ◌∷◌, ◌++◌, length, map, ◌&&◌, option_map}
+use Rattle.std.specs.Prelude.{ℕ, zero, suc, ◌≡◌, ◌<◌, ◌≤◌, ◌+◌, ◌-◌, ◌/◌, ◌^◌, ◌==◌, Bool, true, false, if◌then◌else◌, drop, List, [], ◌∷◌, ◌++◌, length, map, option_map}
 use Rattle.std.specs.declared.option.Option.{Option}
 use Rattle.std.specs.declared.option.Option.TheVariants.{None, Some}
 use Rattle.std.specs.Option.{IfSome}
@@ -29,7 +29,8 @@ use Rattle.dm_line.specs.declared.end_line.Standing.TheVariants as standing
 use Rattle.dm_line.specs.declared.end_line.Doing.{Doing}
 use Rattle.dm_line.specs.declared.end_line.Doing.TheVariants as doing
 use Rattle.dm_line.specs.Todo.{or}
-use Rattle.dm_line.specs.Ends.{memory_lines, joined_below, home_with, list_line}
+use Rattle.dm_line.specs.Ends.{memory_lines, joined_below, home_with, is_at_home, list_line}
+pub use Rattle.dm_line.specs.Ends.{stands_here}
 use Rattle.dm_kernel.specs.State.{KernelKnown}
 use Rattle.dm_resident.specs.declared.Resident.{Resident}
 use Rattle.dm_resident.specs.declared.Resident.TheVariants as resident
@@ -62,13 +63,8 @@ abbrev pub alive_lines : ℕ → Pid → Standing → Process → List EndLine
 alive_lines m p s x = end.Process p m s (doing_of x.status) x.stopped x.sent ∷ state_lines p x
 
 -- how many messages a server has sent, and where it stands, unless it is here on machine 0
-abbrev pub stands_here : Standing → Bool
-stands_here standing.Here = true
-stands_here standing.Leaving = false
-stands_here standing.Arriving = false
-
 abbrev pub sent_lines : ℕ → Pid → Standing → ℕ → List EndLine
-sent_lines m p s sent = end.Server p sent ∷ (if (m == 0) && stands_here s then [] else end.Place p m s ∷ [])
+sent_lines m p s sent = end.Server p sent ∷ (if is_at_home m s then [] else end.Place p m s ∷ [])
 
 -- a process or a server that stands so on machine m
 abbrev pub resident_lines : ℕ → Pid → Standing → Resident → List EndLine

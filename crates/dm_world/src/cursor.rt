@@ -1,5 +1,5 @@
 //! How far a directive has come, and which elementary one comes next.
-ghost use Rattle.std.specs.Prelude.{◌≡◌, ◌∷◌, ◌+◌, ◌<◌, ◌≤◌, ℕ, List, None, Some, IfSome, [], length};
+ghost use Rattle.std.specs.Prelude.{◌≡◌, ◌∷◌, ◌+◌, ◌<◌, ℕ, List, None, Some, IfSome, length};
 ghost use Rattle.dm_schedule.specs.declared.Directive.{Directive as TheDirective};
 ghost use Rattle.dm_line.specs.Todo.{Seen, Two, all_of, following, is_over, takes_turn};
 ghost use Rattle.dm_world.specs.Cursor.{Falls, FirstIs, FirstTurnIs, InPassIs, IsFresh, NextIs, NextPassIs, RoundGoes, RowIs, TakesTurn, pairs_at, todo_of};
@@ -249,10 +249,8 @@ impl World {
         ensures first { (rest : List Two) → RowIs (length self.now.boot.machines) (world_state self.now) from to rest result }
         ensures fresh { IfSome result (λ p. IsFresh (length self.now.boot.machines) (world_state self.now) from p.0 p.1) }
     {
-        if !self.wires.is_pending(from) {
-            return None;
-        }
-        for b in to..self.machines() {
+        let first = self.wires.first_open(from, to)?;
+        for b in first..self.machines() {
             if from != b {
                 if let Some(k) = self.wires.unseen(from, b) {
                     return Some((b, k));

@@ -16,7 +16,7 @@ use crate::end_servers::say_server;
 use crate::world::World;
 use dm_line::end_line::{EndLine, Standing};
 use dm_link::{FIRST_NUMBER, Pid};
-use dm_lists::Queue;
+use dm_lists::Parcels;
 use dm_memory::{NoMemory, push};
 use dm_message::Message;
 use dm_node::Node;
@@ -319,7 +319,7 @@ fn say_waiting(
 fn say_messages(
     alloc: Global,
     pid: Pid,
-    queue: &Queue<Message>,
+    queue: &Parcels<Message>,
     lines: &mut Vec<EndLine>,
 ) -> Result<(), NoMemory>
     ensures { OnOk result (lines.new.items ≡ lines.old.items ++ list_line (end.Queue pid) (names_of queue.now)) }

@@ -5,7 +5,7 @@ ghost use Rattle.dm_node.specs.Meets.{HasStreams};
 ghost use Rattle.dm_world.specs.Ends.{names_of};
 
 use dm_link::MACHINES;
-use dm_lists::{Items, Queue};
+use dm_lists::{Items, Parcels, Queue};
 use dm_memory::{NoMemory, Parcel};
 use dm_message::{Message, MsgId};
 use dm_node::Node;
@@ -13,7 +13,7 @@ use dm_stream::Sender;
 use std::alloc::Global;
 
 /// The names of the messages of a queue, its front first.
-pub fn ids_of(alloc: Global, queue: &Queue<Message>) -> Result<Items<MsgId>, NoMemory>
+pub fn ids_of(alloc: Global, queue: &Parcels<Message>) -> Result<Items<MsgId>, NoMemory>
     ensures { IfOk result (λ ids. ids ≡ names_of queue.now) }
 {
     let mut ids = Items::new(alloc);

@@ -1,12 +1,12 @@
 //! The lines of the servers at the end of a run.
-ghost use Rattle.std.specs.Prelude.{◌≡◌, ◌<◌, ◌≤◌, ◌^◌, ◌==◌, ◌&&◌, [], ◌∷◌, ◌++◌, IfOk, OnOk, Some, false, length, option_map};
+ghost use Rattle.std.specs.Prelude.{◌≡◌, ◌<◌, ◌≤◌, ◌^◌, [], ◌∷◌, ◌++◌, IfOk, OnOk, Some, false, length, option_map};
 ghost use Rattle.std.specs.Option.{IfSome};
 ghost use Rattle.dm_records.specs.Records.{at};
 ghost use Rattle.dm_onekernel.specs.Boot.{IsValid};
 ghost use Rattle.dm_switchboard.specs.Lawful.{IsLawfulBoard};
 ghost use Rattle.dm_migrate.specs.Arrival.{is_process_coming, restarted};
 ghost use Rattle.dm_line.specs.declared.end_line.EndLine.TheVariants as end;
-ghost use Rattle.dm_world.specs.Ends.{HasPlainEnd, KnownHasPlainEnd, MayEnd, SaysSome, awaited_kept, child_lines, first_says, kept_lines, lists_of, name_lines, pending_lines, record_kept, sent_lines, server_come, server_lines, stands_here};
+ghost use Rattle.dm_world.specs.Ends.{HasPlainEnd, KnownHasPlainEnd, MayEnd, SaysSome, awaited_kept, child_lines, first_says, kept_lines, lists_of, name_lines, pending_lines, record_kept, sent_lines, server_come, server_lines};
 ghost use Rattle.dm_world.specs.Meets.{IsWorld, world_state};
 
 use crate::world::World;
@@ -91,7 +91,7 @@ pub fn say_server(
     ensures { OnOk result (lines.new.items ≡ lines.old.items ++ sent_lines m pid standing sent) }
 {
     push(lines, EndLine::Server { pid, sent })?;
-    if is_at_home(m, standing) {
+    if standing.is_at_home(m) {
         return Ok(());
     }
     push(
@@ -103,17 +103,6 @@ pub fn say_server(
         },
     )?;
     Ok(())
-}
-
-/// Whether it is here on machine 0, where the servers begin.
-fn is_at_home(m: u8, standing: Standing) -> bool
-    ensures { result ≡ ((m == 0) && stands_here standing) }
-{
-    match standing {
-        Standing::Here => m == 0,
-        Standing::Leaving => false,
-        Standing::Arriving => false,
-    }
 }
 
 /// What a server keeps, if it is on this machine; whether it is.
@@ -196,7 +185,8 @@ fn say_lists(resident: &Resident, lines: &mut Vec<EndLine>) -> Result<(), NoMemo
         Resident::Board(board) => say_names(board, lines),
         Resident::Manager(manager) => {
             say_children(manager.children(), lines)?;
-            say_pending(manager.pending(), lines)?;
+            let pending = manager.pending()?;
+            say_pending(pending.as_slice(), lines)?;
             Ok(())
         }
     }

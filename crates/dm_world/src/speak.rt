@@ -1,5 +1,5 @@
 //! How what a machine gives is printed and put on the wires.
-ghost use Rattle.std.specs.Prelude.{◌≡◌, ◌++◌, ◌∷◌, ℕ, IfOk, Ok, OnOk};
+ghost use Rattle.std.specs.Prelude.{◌≡◌, ℕ, IfOk, Ok, OnOk};
 ghost use Rattle.std.specs.List.{All};
 ghost use Rattle.dm_packet.specs.Lawful.{IsLawfulPacket};
 ghost use Rattle.dm_packet.specs.Packets.{packet_of, spelling};

@@ -17,7 +17,7 @@ ghost use Rattle.dm_node.specs.Meets.{OrNoMemory};
 ghost use Rattle.dm_node.specs.Wired.{spoken};
 ghost use Rattle.dm_line.specs.declared.line.Line.TheVariants as line;
 ghost use Rattle.dm_world.specs.Local.{ActsAlone, acts_on};
-ghost use Rattle.dm_world.specs.May.{MayDeliver, MayStep};
+ghost use Rattle.dm_world.specs.May.{MayStep};
 ghost use Rattle.dm_world.specs.Meets.{ActedAt, AreNodes, IsSendable, IsWorld, TurnAnswers, ended_in, node_in, world_state};
 ghost use Rattle.dm_world.specs.Readable.{AreReadBack};
 ghost use Rattle.dm_world.specs.Stepped.{StepMeets};

@@ -4,7 +4,7 @@ ghost use Rattle.dm_onekernel.specs.Boot.{IsValid};
 ghost use Rattle.dm_node.specs.declared.node.Node.{Node as TheNode};
 ghost use Rattle.dm_node.specs.Meets as node;
 ghost use Rattle.dm_node.specs.State.{node_opened};
-ghost use Rattle.dm_world.specs.Meets.{AreNodes, IsNode, IsWorld, world_state};
+ghost use Rattle.dm_world.specs.Meets.{AreNodes, IsWorld, world_state};
 ghost use Rattle.dm_world.specs.World.{first_world};
 
 use dm_line::line::Line;

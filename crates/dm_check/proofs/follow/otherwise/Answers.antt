@@ -1,6 +1,5 @@
-use Rattle.dm_check.proofs.Names.{◌≡◌, ◌+◌, ap, sym, ◌∙◌, subst, refl, pieces, some_piece, false, NotDue, taken_of, Falls, Stands, is_line_text, judged_from, taken, text, told, Line, LineStrays, Stray, TellsFewer}
+use Rattle.dm_check.proofs.Names.{◌≡◌, ◌+◌, ap, sym, ◌∙◌, refl, pieces, some_piece, NotDue, taken_of, Falls, Stands, judged_from, taken, told, TellsFewer}
 use Rattle.dm_check.specs.Judge as judge
-use Rattle.dm_check.specs.declared.follow.Stray.TheVariants as stray
 use Rattle.dm_check.proofs.Judging.{at_text_end, falls_from, goes_from, other_line, strayed_as, told_other}
 use Rattle.dm_check.proofs.Straying.{strays_here}
 use Rattle.dm_check.proofs.follow.otherwise.Goals as goal

@@ -1,4 +1,4 @@
-use Rattle.dm_run.proofs.Names.{ap, refl, sym, ◌∙◌, length, subst, All, Boot, EndFits, world_end_lines, world_state, IsWritten}
+use Rattle.dm_run.proofs.Names.{ap, refl, sym, ◌∙◌, subst, All, Boot, EndFits, world_end_lines, world_state, IsWritten}
 use Rattle.dm_run.proofs.Going.{running_come}
 use Rattle.dm_run.proofs.Printing.{ended_by, of_first}
 use Rattle.dm_run.proofs.directives.run_to_end.Goals as goal

@@ -1,4 +1,4 @@
-use Rattle.dm_world.proofs.Names.{◌≤◌, length, arith, leb-true}
+use Rattle.dm_world.proofs.Names.{length, arith, leb-true}
 use Rattle.dm_world.proofs.Ending.{plain_ends}
 use Rattle.dm_world.proofs.end_servers.server_of.Goals as goal
 

@@ -1,4 +1,4 @@
-use Rattle.dm_world.proofs.Names.{◌∷◌, ◌+◌, ◌∙◌, ap, drop, packets_on, spoken, subst, sym, Sends}
+use Rattle.dm_world.proofs.Names.{◌+◌, ◌∙◌, ap, drop, packets_on, spoken, subst, sym, Sends}
 use Rattle.dm_node.specs.declared.out.Out.TheVariants.{Says}
 use Rattle.dm_world.proofs.Speaking.{Leads, at_place, leads_line, leads_packet}
 use Rattle.dm_world.proofs.Rereading.{back_line, back_packet}

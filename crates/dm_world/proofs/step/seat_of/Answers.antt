@@ -1,4 +1,4 @@
-use Rattle.dm_world.proofs.Names.{◌≡◌, ◌<◌, Bool, NodeState, is_some, length, arith, ap, sym, refl, ◌∙◌, true, false, node_in, node_state, manager, manager_in, seat_of}
+use Rattle.dm_world.proofs.Names.{◌≡◌, ◌<◌, NodeState, is_some, length, arith, ap, sym, refl, ◌∙◌, node_in, node_state, manager, manager_in, seat_of}
 use Rattle.dm_records.specs.Records.{at}
 use Rattle.dm_kernel.specs.declared.kernel.Kernel.{Kernel}
 use Rattle.dm_world.proofs.Nodes.{node_at}

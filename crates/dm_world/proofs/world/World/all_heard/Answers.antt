@@ -1,4 +1,4 @@
-use Rattle.dm_world.proofs.Names.{◌≡◌, ◌<◌, ◌+◌, ◌==◌, false, length, sym, ap, ◌∙◌, arith, fails_at, world_state, all_heard}
+use Rattle.dm_world.proofs.Names.{length, sym, ◌∙◌, arith, fails_at, world_state, all_heard}
 use Rattle.dm_world.proofs.Passes.{not_heard}
 use Rattle.dm_world.proofs.world.World.all_heard.Goals as goal
 

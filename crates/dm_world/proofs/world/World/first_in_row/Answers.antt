@@ -1,14 +1,29 @@
-use Rattle.dm_world.proofs.Names.{◌<◌, ◌≤◌, below, drop, length, sym, ap, ◌∙◌, arith, next_delivery, packets_on, world_state, world_undelivered}
-use Rattle.dm_world.proofs.Passing.{first_unseen_is, row_none, row_nothing, row_over, row_same, row_some}
+use Rattle.dm_world.specs.Cursor.{RowIs}
+use Rattle.dm_world.proofs.Names.{subst, ◌<◌, ◌≤◌, ◌+◌, ◌-◌, length, sym, ap, ◌∙◌, arith, next_delivery, packets_on, row_at, world_state, world_undelivered, ℕ, ◌≡◌}
+use Rattle.dm_world.proofs.Passing.{first_unseen_is, row_none, row_over, row_same, row_skip, row_some}
 use Rattle.dm_world.proofs.world.World.first_in_row.Goals as goal
 use Rattle.dm_world.proofs.world.World.first_in_row.Goals.{then-from-b+in_default, else-from-b}
 
--- no packet from the machine waits
-pub returns-then-not-is_pending-clause-first : goal.returns-then-not-is_pending-clause-first
-returns-then-not-is_pending-clause-first c rest =
+-- no packet from the machine waits on the wires that are left
+pub returns-in_err-first-clause-first : goal.returns-in_err-first-clause-first
+returns-in_err-first-clause-first c rest =
     let w = c.args.self.now in
     let n = length w.boot.machines in
-    row_nothing (world_state w) c.args.from (drop c.args.to (below n)) rest (λ b. first_unseen_is (packets_on w.wires c.args.from b) ∙ c.is_pending.ensures c.if-not-is_pending.true b)
+    subst (RowIs n (world_state w) c.args.from c.args.to rest) (sym c.from_residual.ensures)
+    (row_skip n (world_state w) c.args.from c.args.to n rest (λ b from below. first_unseen_is (packets_on w.wires c.args.from b) ∙ c.in_err-first.ensures.none b from)
+    ∙ ap (next_delivery (world_undelivered (world_state w))) (row_over n c.args.from (c.args.to + n) rest (omega arith)))
+
+-- nor on those before the first that is looked at
+pub loop-b-init : goal.loop-b-init
+loop-b-init c rest =
+    let w = c.args.self.now in
+    let n = length w.boot.machines in
+    let first = c.in_ok-first.first in
+    let after = c.in_ok-first.ensures.some.0 in
+    let whole : c.args.to + (first - c.args.to) ≡ first = omega (arith, after) in
+    row_skip n (world_state w) c.args.from c.args.to (first - c.args.to) rest
+    (λ b from below. first_unseen_is (packets_on w.wires c.args.from b) ∙ c.in_ok-first.ensures.some.1 b from (omega (arith, after, below)))
+    ∙ ap (λ (b : ℕ). next_delivery (world_undelivered (world_state w)) (row_at n c.args.from b rest)) whole
 
 pub returns-in-Some-clause-first : goal.returns-in-Some-clause-first
 returns-in-Some-clause-first c rest =

@@ -1,4 +1,4 @@
-use Rattle.dm_world.proofs.Names.{◌+◌, ◌<◌, ◌≤◌, length, sym, ◌∙◌, arith, world_state, world_seen}
+use Rattle.dm_world.proofs.Names.{◌+◌, length, sym, ◌∙◌, arith, world_state, world_seen}
 use Rattle.dm_world.proofs.Passes.{none_left, passes_over, stays_on, takes_next}
 use Rattle.dm_world.proofs.world.World.first_turn.Goals as goal
 

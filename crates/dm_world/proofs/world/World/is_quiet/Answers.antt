@@ -1,4 +1,4 @@
-use Rattle.dm_world.proofs.Names.{length, sym, ◌&&◌, not, ◌<◌, arith, ◌∙◌, all_below, fails_at, world_state, all_heard, world_has_mail}
+use Rattle.dm_world.proofs.Names.{length, sym, ◌&&◌, not, arith, ◌∙◌, all_below, fails_at, world_state, all_heard, world_has_mail}
 use Rattle.dm_world.proofs.Passes.{has_some, lacks_heard}
 use Rattle.dm_world.proofs.world.World.is_quiet.Goals as goal
 use Rattle.dm_world.proofs.world.World.is_quiet.Goals.{then-has_mail-via-then-has_mail, then-has_mail-via-else-has_mail+then-not-all_heard}

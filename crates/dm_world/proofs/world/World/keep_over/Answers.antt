@@ -1,4 +1,4 @@
-use Rattle.dm_world.proofs.Names.{get, pid_cmp, Why, ◌≡◌, ◌∙◌, Option, None, Some, Pid, NodeState, ap, sym, rules, node_in, node_state, ended_in}
+use Rattle.dm_world.proofs.Names.{get, pid_cmp, ◌≡◌, ◌∙◌, None, Pid, NodeState, ap, sym, rules, node_in, node_state, ended_in}
 use Rattle.dm_world.proofs.Nodes.{node_at}
 use Rattle.dm_world.proofs.Stepping.{none_kept, one_kept}
 use Rattle.dm_world.proofs.world.World.keep_over.Goals as goal

@@ -1,4 +1,4 @@
-use Rattle.dm_world.proofs.Names.{length, sym, ap, not, ◌<◌, arith, ◌∙◌, fails_at, world_state, world_serves}
+use Rattle.dm_world.proofs.Names.{length, sym, ap, not, arith, ◌∙◌, fails_at, world_state, world_serves}
 use Rattle.dm_world.proofs.world.World.none_is_served.Goals as goal
 
 pub returns-then-can_serve : goal.returns-then-can_serve

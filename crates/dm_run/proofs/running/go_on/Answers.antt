@@ -1,7 +1,7 @@
-use Rattle.dm_run.proofs.Names.{List, Line, world_state, world_step, StopsWorn}
+use Rattle.dm_run.proofs.Names.{world_state, StopsWorn}
 use Rattle.dm_run.proofs.Counted.{counts}
 use Rattle.dm_run.proofs.Going.{done, if_err, may_step, running_on, stops_as}
-use Rattle.dm_run.proofs.running.step_on.Goals as goal
+use Rattle.dm_run.proofs.running.go_on.Goals as goal
 
 pub step-requires-clause-may : goal.step-requires-clause-may
 step-requires-clause-may c = may_step c.requires.law c.args.world.now c.args.step.now c.requires.running c.requires.step
