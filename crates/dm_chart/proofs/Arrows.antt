@@ -1,7 +1,7 @@
 -- Each message that is put has one arrow, and nothing else is an arrow.
 use Rattle.dm_chart.proofs.Names.{◌≡◌, ℕ, zero, suc, ◌-◌, Bool, true, false, List, [], ◌∷◌, ◌++◌, map, Some, None, refl, ap, ◌∙◌, Option, flat_map, not, ◌&&◌, if◌then◌else◌, flat_map-append, append-nil, Pid, Line, Letter, Life, Role}
 use Rattle.dm_chart.proofs.Names.{Spot, is_delivery, letter_of_shape, letter_of_role, letters_of, role_of, Shape, Group, columns, deliveries, fate, fate_here, first_bar, group_shapes, life_shapes, line_shapes, lost_unless, moves_shown}
-use Rattle.dm_chart.proofs.Names.{own_shapes, shapes, shapes_from, first_spot, next_spot}
+use Rattle.dm_chart.proofs.Names.{own_shapes, shapes, shapes_from, wait_if, first_spot, next_spot}
 use Rattle.dm_chart.specs.declared.role.Life.TheVariants as life
 use Rattle.dm_chart.specs.declared.role.Role.TheVariants as role
 
@@ -59,13 +59,19 @@ none-moves : (last : ℕ) (p : Pid) (s : Spot) (o : Option Spot) → arrows (mov
 none-moves last p s None = refl
 none-moves last p s (Some t) = refl
 
-none-life : (last : ℕ) (all : List Line) (way : Life) (s : Spot) (after : List Line) → arrows (life_shapes last all way s after) ≡ []
-none-life last all life.Same s after = refl
-none-life last all (life.Made p) s after = refl
-none-life last all (life.From p) s after = refl
-none-life last all (life.Ends p) s after = refl
-none-life last all (life.Leaves p) s after = none-moves last p s _
-none-life last all (life.Served i) s after = refl
+none-wait : (b : Bool) (last : ℕ) (all : List Line) (p : Pid) (s : Spot) (after : List Line) → arrows (wait_if b last all p s after) ≡ []
+none-wait true last all p s after = refl
+none-wait false last all p s after = refl
+
+none-life : (last : ℕ) (all before : List Line) (way : Life) (s : Spot) (after : List Line) → arrows (life_shapes last all before way s after) ≡ []
+none-life last all before life.Same s after = refl
+none-life last all before (life.Made p) s after = refl
+none-life last all before (life.From p) s after = none-wait _ last all p s after
+none-life last all before (life.Ends p) s after = refl
+none-life last all before (life.Leaves p) s after = none-moves last p s _
+none-life last all before (life.Served i) s after = refl
+none-life last all before (life.Waits p) s after = refl
+none-life last all before (life.Wakes p) s after = refl
 
 -- a line has the arrow of the message that it puts
 of-role : (last : ℕ) (all : List Line) (own : Bool) (before : List Line) (s : Spot) (after : List Line) (r : Role) → arrows (own_shapes last all own before s after r) ≡ letter_of_role r
@@ -75,7 +81,7 @@ of-role last all own before s after (role.Packet a b k n) = none-both (deliverie
 of-role last all own before s after (role.Taken a b n) = refl
 of-role last all own before s after (role.Early a b n) = refl
 of-role last all own before s after (role.Again a b n) = refl
-of-role last all own before s after (role.Note way) = none-life last all way s after
+of-role last all own before s after (role.Note way) = none-life last all before way s after
 of-role last all own before s after role.Unseen = refl
 
 of-line : (last : ℕ) (all before : List Line) (s : Spot) (l : Line) (after : List Line) → arrows (line_shapes last all before s l after) ≡ letter_of_role (role_of l)

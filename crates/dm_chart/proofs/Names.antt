@@ -12,16 +12,17 @@ pub use Rattle.dm_text.proofs.Names.{Bool, Label, Line, List, MsgId, None, Optio
 pub use Rattle.dm_text.proofs.Names.{sym, take, take_more, true, word_text, zero, ℕ, ◌&&◌, ◌++◌, ◌+◌, ◌-◌, ◌<◌, ◌∙◌, ◌∷◌, ◌≡◌, ◌≤◌}
 pub use Rattle.dm_chart.specs.Ahead.{is_delivery, is_wanted}
 unfoldable pub use Rattle.dm_chart.specs.Ahead.{first_ahead}
-pub use Rattle.dm_chart.specs.Behind.{kill_in, letter_last, news_here, puts_it}
+pub use Rattle.dm_chart.specs.Behind.{kill_in, letter_last, news_here, puts_it, waits_behind, waits_on}
 unfoldable pub use Rattle.dm_chart.specs.Behind.{news_from}
-pub use Rattle.dm_chart.specs.Drawn.{all_drawn, draw_beside, draw_note, drawn_shape}
+pub use Rattle.dm_chart.specs.Drawn.{all_drawn, draw_beside, draw_note, drawn_shape, heading_again, name_again}
+unfoldable pub use Rattle.dm_chart.specs.Drawn.{each_below}
 pub use Rattle.dm_chart.specs.Kept.{is_put_line}
 pub use Rattle.dm_chart.specs.Laws.{letter_of_role, letter_of_shape, letters_of}
 pub use Rattle.dm_chart.specs.Notes.{Note, call_note, follow_note, label_note, no_note, note, note_of}
 pub use Rattle.dm_chart.specs.Picture.{made_in}
 unfoldable pub use Rattle.dm_chart.specs.Picture.{foot}
 pub use Rattle.dm_chart.specs.Roles.{role_of}
-pub use Rattle.dm_chart.specs.Shapes.{Column, Group, Shape, fate, fate_here, first_bar, group_shapes, life_shapes, line_shapes, lost_unless, moves_shown, own_shapes, sending_shapes, shapes}
+pub use Rattle.dm_chart.specs.Shapes.{Column, Group, Shape, fate, fate_here, first_bar, group_shapes, life_shapes, line_shapes, lost_unless, moves_shown, own_shapes, sending_shapes, shapes, wait_if}
 unfoldable pub use Rattle.dm_chart.specs.Shapes.{columns, deliveries, shapes_from}
 pub use Rattle.dm_chart.specs.Spots.{first_spot, next_spot, spot_behind}
 pub use Rattle.dm_chart.specs.Written.{seen}

@@ -1,5 +1,5 @@
 -- A text or a list that grows piece by piece, as a loop goes through what it is made of.
-use Rattle.dm_chart.proofs.Names.{◌≡◌, ℕ, zero, suc, ◌+◌, ◌<◌, ◌≤◌, List, [], ◌∷◌, ◌++◌, length, get_or, drop, map, refl, ap, sym, ◌∙◌, append_assoc, arith, concat, flat_map, append-nil, drop_more, drop_of_length-le}
+use Rattle.dm_chart.proofs.Names.{◌≡◌, ℕ, zero, suc, ◌+◌, ◌<◌, ◌≤◌, List, [], ◌∷◌, ◌++◌, length, get_or, drop, map, refl, ap, sym, ◌∙◌, append_assoc, arith, concat, flat_map, append-nil, drop_more, drop_of_length-le, add-one, each_below}
 
 -- an element that was read, and those after it
 pub read_at : {X : Type 0} (xs : List X) (i : ℕ) (x : X) → i < length xs → x ≡ get_or xs i x → drop i xs ≡ x ∷ drop (i + 1) xs
@@ -51,6 +51,17 @@ concat-copied f done xs i d within = concat-more f done xs i (get_or xs i d) wit
 
 pub mapped-copied : {X Y A : Type 0} (g : Y → List A) (f : X → Y) (done : List A) (xs : List X) (i : ℕ) (d : X) → i < length xs → done ++ flat_map g (map f (drop i xs)) ≡ (done ++ g (f (get_or xs i d))) ++ flat_map g (map f (drop (i + 1) xs))
 mapped-copied g f done xs i d within = mapped-more g f done xs i (get_or xs i d) within (get_or_same xs i d (get_or xs i d) within)
+
+-- the texts of the numbers below one
+pub below-none : (text : ℕ → List ℕ) (done : List ℕ) → done ++ each_below text 0 ≡ done
+unfolding each_below
+below-none text done = append-nil done
+
+pub below-more : (text : ℕ → List ℕ) (done : List ℕ) (n : ℕ) → (done ++ each_below text n) ++ text n ≡ done ++ each_below text (n + 1)
+unfolding each_below
+below-more text done n = append_assoc done (each_below text n) (text n) ∙ ap (λ k. done ++ each_below text k) (sym (add-one n))
+
+pub ruleset below_lemmas = (below-none, below-more)
 
 -- four pieces, one behind another
 pub four-pieces : (t u v w a b c d : List ℕ) → u ≡ t ++ a → v ≡ u ++ b → w ≡ v ++ c → w ++ d ≡ t ++ (((a ++ b) ++ c) ++ d)

@@ -1,7 +1,7 @@
 -- Walks over lines, as loops go through them.
 use Rattle.dm_chart.proofs.Names.{◌≡◌, ℕ, ◌+◌, ◌<◌, ◌≤◌, Bool, true, false, List, [], ◌∷◌, ◌++◌, length, get_or, take, drop, map, Some, None, refl, ap, sym, ◌∙◌, add-one, append_assoc, flat_map-append, append-nil}
 use Rattle.dm_chart.proofs.Names.{drop_more, flat_map_more, take_more, drop_of_length-le, Pid, Line, Frame, Role, Spot, first_ahead, is_delivery, all_drawn, drawn_shape, role_of, Shape, Column, columns, deliveries, fate_here}
-use Rattle.dm_chart.proofs.Names.{line_shapes, shapes_from, next_spot, spot_behind, Option, MsgId, Letter, letter_last, news_from, news_here, puts_it}
+use Rattle.dm_chart.proofs.Names.{line_shapes, shapes_from, next_spot, spot_behind, Option, MsgId, Letter, letter_last, news_from, news_here, puts_it, waits_behind, waits_on}
 use Rattle.dm_chart.proofs.Pieces.{read_at}
 
 -- the first line ahead that passes a test
@@ -42,6 +42,15 @@ pub spot_behind-more : (s : Spot) (ls : List Line) (i : ℕ) (l : Line) → i < 
 spot_behind-more s ls i l within read = ap (spot_behind s) (read_at ls i l within read)
 
 pub ruleset behind_lemmas = (spot_behind-end, spot_behind-more)
+
+-- whether a process waits behind all lines
+pub waits_behind-end : (p : Pid) (waits : Bool) (ls : List Line) (i : ℕ) → length ls ≤ i → waits_behind p waits (drop i ls) ≡ waits
+waits_behind-end p waits ls i past = ap (waits_behind p waits) (drop_of_length-le ls past)
+
+pub waits_behind-more : (p : Pid) (waits : Bool) (ls : List Line) (i : ℕ) (l : Line) → i < length ls → l ≡ get_or ls i l → waits_behind p waits (drop i ls) ≡ waits_behind p (waits_on p waits (role_of l)) (drop (i + 1) ls)
+waits_behind-more p waits ls i l within read = ap (waits_behind p waits) (read_at ls i l within read)
+
+pub ruleset wait_lemmas = (waits_behind-end, waits_behind-more)
 
 -- what is drawn of two lists of shapes
 pub drawn-both : (f : Frame) (done : List ℕ) (ss ts : List Shape) → done ++ all_drawn f (ss ++ ts) ≡ (done ++ all_drawn f ss) ++ all_drawn f ts

@@ -41,10 +41,21 @@ ends_life p kills (life.From q) = false
 ends_life p kills (life.Ends q) = pid_eq q p
 ends_life p kills (life.Leaves q) = pid_eq q p
 ends_life p kills (life.Served i) = message_is_among i kills
+ends_life p kills (life.Waits q) = false
+ends_life p kills (life.Wakes q) = false
 
 abbrev pub is_end : Pid → List MsgId → Role → Bool
 is_end p kills (role.Note l) = ends_life p kills l
 is_end p kills _ = false
+
+-- a process waits no more: it has a message, or its life on the machine ends
+abbrev pub ends_wait : Pid → List MsgId → Life → Bool
+ends_wait p kills (life.Wakes q) = pid_eq q p
+ends_wait p kills l = ends_life p kills l
+
+abbrev pub is_wait_end : Pid → List MsgId → Role → Bool
+is_wait_end p kills (role.Note l) = ends_wait p kills l
+is_wait_end p kills _ = false
 
 -- a process goes on
 abbrev pub begins_life : Pid → Life → Bool
@@ -59,6 +70,7 @@ unfoldable pub is_wanted : Wanted → Role → Bool
 is_wanted (wanted.Taken a b n) r = is_taken a b n r
 is_wanted (wanted.Delivery a b k) r = is_delivery a b k r
 is_wanted (wanted.End p kills) r = is_end p kills.now r
+is_wanted (wanted.WaitEnd p kills) r = is_wait_end p kills.now r
 is_wanted (wanted.Restart p) r = is_restart p r
 
 -- behind the first line ahead that passes a test

@@ -1,5 +1,5 @@
 -- What other lines tell of a message.
-use Rattle.std.specs.Prelude.{ℕ, ◌==◌, ◌&&◌, Bool, false, if◌then◌else◌, List, [], ◌∷◌, count_by}
+use Rattle.std.specs.Prelude.{ℕ, ◌==◌, ◌&&◌, Bool, true, false, if◌then◌else◌, List, [], ◌∷◌, count_by}
 use Rattle.std.specs.List.{list_any, flat_map}
 use Rattle.std.specs.declared.option.Option.{Option}
 use Rattle.std.specs.declared.option.Option.TheVariants.{None, Some}
@@ -11,6 +11,8 @@ use Rattle.dm_message.specs.declared.kind.MessageKind.TheVariants as kind
 use Rattle.dm_message.specs.Ids.{id_eq}
 use Rattle.dm_line.specs.declared.line.Line.{Line}
 use Rattle.dm_chart.specs.declared.role.Letter.{Letter}
+use Rattle.dm_chart.specs.declared.role.Life.{Life}
+use Rattle.dm_chart.specs.declared.role.Life.TheVariants as life
 use Rattle.dm_chart.specs.declared.role.Role.{Role}
 use Rattle.dm_chart.specs.declared.role.Role.TheVariants as role
 use Rattle.dm_chart.specs.declared.scan.News.{News}
@@ -55,6 +57,20 @@ kill_in p _ = []
 -- the messages of these lines that kill it
 abbrev pub kills_of : Pid → List Line → List MsgId
 kills_of p ls = flat_map (λ l. kill_in p (role_of l)) ls
+
+-- whether a process waits, with one more line
+abbrev pub waits_with : Pid → Bool → Life → Bool
+waits_with p waits (life.Waits q) = if pid_eq q p then true else waits
+waits_with p waits (life.Wakes q) = if pid_eq q p then false else waits
+waits_with p waits _ = waits
+
+abbrev pub waits_on : Pid → Bool → Role → Bool
+waits_on p waits (role.Note l) = waits_with p waits l
+waits_on p waits _ = waits
+
+abbrev pub waits_behind : Pid → Bool → List Line → Bool
+waits_behind p waits [] = waits
+waits_behind p waits (l ∷ ls) = waits_behind p (waits_on p waits (role_of l)) ls
 
 -- the last message that was put, with one more line
 abbrev pub letter_last : Option Letter → Role → Option Letter

@@ -8,12 +8,13 @@ use Rattle.dm_chart.specs.declared.role.Role.{Role}
 use Rattle.dm_chart.specs.declared.role.Role.TheVariants as role
 use Rattle.dm_chart.specs.Kept.{kept_of, plus}
 use Rattle.dm_chart.specs.Roles.{role_of}
-use Rattle.dm_chart.specs.Shapes.{Shape, Column, Bar, Moves, Group, Arrow, Came, Early, Again, Lost, Beside, shapes}
+use Rattle.dm_chart.specs.Shapes.{Shape, Column, Bar, Waits, Moves, Group, Arrow, Came, Early, Again, Lost, Beside, shapes}
 
 -- the message of an arrow
 abbrev pub letter_of_shape : Shape → List Letter
 letter_of_shape (Column m) = []
 letter_of_shape (Bar p m row last) = []
+letter_of_shape (Waits p m row last) = []
 letter_of_shape (Moves p a row b last) = []
 letter_of_shape (Group row group e) = []
 letter_of_shape (Arrow s x row last) = x ∷ []

@@ -11,7 +11,7 @@ style_sheet =
     ∷ codes "line,path,circle{fill:none;stroke-width:1.3}.ax{stroke:#999}.r{stroke:#eee}.o{stroke:#222}.p{stroke:#9e9e9e;stroke-dasharray:3 3}\n"
     ∷ codes ".k0{stroke:#222;marker-end:url(#a0)}.k1{stroke:#6a1b9a;marker-end:url(#a1)}.k2{stroke:#1e88e5;marker-end:url(#a2)}\n"
     ∷ codes ".k3{stroke:#2e7d32;stroke-dasharray:2 2;marker-end:url(#a3)}.k4{stroke:#d84315;stroke-dasharray:7 3;marker-end:url(#a4)}\n"
-    ∷ codes ".k5{stroke:#ad1457;stroke-dasharray:9 3 2 3;marker-end:url(#a5)}.b{stroke-width:6;stroke-opacity:.75}.v{stroke-width:1.6;stroke-dasharray:1 3}\n"
+    ∷ codes ".k5{stroke:#ad1457;stroke-dasharray:9 3 2 3;marker-end:url(#a5)}.b{stroke-width:6;stroke-opacity:.75}.v{stroke-width:1.6;stroke-dasharray:1 3}.w{stroke:#fff;stroke-width:3}.h{stroke:#fff;stroke-width:26;stroke-opacity:.85}\n"
     ∷ codes "</style>\n"
     ∷ []
 
@@ -26,7 +26,7 @@ marks =
     ∷ codes "<marker id='a5' viewBox='0 0 8 8' refX='8' refY='4' markerWidth='8' markerHeight='8' orient='auto'><path d='M0 0L8 4L0 8z' style='fill:#ad1457'/></marker>\n"
     ∷ codes "<path id='l0' class='k0' d='M0 -6h-10v6h9'/><path id='l1' class='k1' d='M0 -6h-10v6h9'/><path id='l2' class='k2' d='M0 -6h-10v6h9'/>\n"
     ∷ codes "<path id='l3' class='k3' d='M0 -6h-10v6h9'/><path id='l4' class='k4' d='M0 -6h-10v6h9'/><path id='l5' class='k5' d='M0 -6h-10v6h9'/>\n"
-    ∷ codes "<circle id='early' r='3.5' style='fill:#fff;stroke:#777'/><circle id='open' r='3' style='fill:#fff;stroke:#c62828'/>\n"
+    ∷ codes "<circle id='early' r='3.5' style='fill:#fff;stroke:#777'/><circle id='open' r='3' style='fill:#fff;stroke:#c62828'/><circle id='note' r='2' style='fill:#777;stroke:none'/>\n"
     ∷ codes "<path id='again' d='M-3 -3l6 6m0 -6l-6 6' style='stroke:#777'/><path id='lost' d='M-4 -4l8 8m0 -8l-8 8' style='stroke:#c62828'/>\n"
     ∷ codes "</defs>\n"
     ∷ []
@@ -39,11 +39,13 @@ meanings =
     ∷ codes "<line class='k3' x1='10' y1='84' x2='46' y2='84'/><text class='q' x='54' y='88'>update of a sender's links</text>\n"
     ∷ codes "<line class='k4' x1='10' y1='100' x2='46' y2='100'/><text class='q' x='54' y='104'>put again: forwarded, or sent on</text>\n"
     ∷ codes "<line class='k5' x1='10' y1='116' x2='46' y2='116'/><text class='q' x='54' y='120'>goes back: a move is called off</text>\n"
-    ∷ codes "<line class='b' stroke='#5c6bc0' x1='10' y1='132' x2='28' y2='132'/><line class='v' stroke='#5c6bc0' x1='28' y1='132' x2='46' y2='132'/><text class='q' x='54' y='136'>a process; dotted while it is frozen</text>\n"
+    ∷ codes "<line class='b' stroke='#5c6bc0' x1='10' y1='132' x2='46' y2='132'/><line class='w' x1='28' y1='132' x2='46' y2='132'/><text class='q' x='54' y='136'>a process; hollow while it waits</text>\n"
+    ∷ codes "<line class='v' stroke='#5c6bc0' x1='10' y1='148' x2='46' y2='148'/><text class='q' x='54' y='152'>a process that is frozen</text>\n"
     ∷ codes "<line class='p' x1='290' y1='36' x2='326' y2='36'/><use href='#early' x='326' y='36'/><text class='q' x='338' y='40'>packet that came early</text>\n"
     ∷ codes "<line class='p' x1='290' y1='52' x2='326' y2='52'/><use href='#again' x='326' y='52'/><text class='q' x='338' y='56'>packet that came again</text>\n"
-    ∷ codes "<line class='p' x1='290' y1='68' x2='326' y2='68'/><use href='#lost' x='326' y='68'/><text class='q' x='338' y='72'>packet that never came</text>\n"
-    ∷ codes "<line class='o' x1='290' y1='84' x2='326' y2='84'/><use href='#open' x='326' y='84'/><text class='q' x='338' y='88'>in no inbox at the end</text>\n"
-    ∷ codes "<use href='#l0' x='326' y='102'/><text class='q' x='338' y='104'>to its own machine</text>\n"
-    ∷ codes "<text class='q' x='290' y='120'>acknowledgements, queues and idle turns aren't drawn</text>\n"
+    ∷ codes "<line class='p' x1='290' y1='68' x2='326' y2='68'/><use href='#lost' x='326' y='68'/><text class='q' x='338' y='72'>packet that hasn't come by the last row</text>\n"
+    ∷ codes "<line class='o' x1='290' y1='84' x2='326' y2='84'/><use href='#open' x='326' y='84'/><text class='q' x='338' y='88'>in no inbox by the last row</text>\n"
+    ∷ codes "<use href='#l0' x='326' y='102'/><text class='q' x='338' y='104'>message to its own machine</text>\n"
+    ∷ codes "<use href='#note' x='326' y='116'/><text class='q' x='338' y='120'>what its row says is of this machine</text>\n"
+    ∷ codes "<text class='q' x='290' y='136'>acknowledgements, queues and idle turns aren't drawn</text>\n"
     ∷ []

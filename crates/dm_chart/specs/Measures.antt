@@ -1,5 +1,5 @@
 -- Where things stand in a picture, in units of the picture.
-use Rattle.std.specs.Prelude.{ℕ, ◌+◌, ◌-◌, ◌*◌, nat_lt, if◌then◌else◌, length, position, slice_index}
+use Rattle.std.specs.Prelude.{ℕ, ◌+◌, ◌-◌, ◌*◌, ◌/◌, ◌&&◌, nat_lt, nat_le, Bool, if◌then◌else◌, length, position, slice_index}
 use Rattle.std.specs.declared.option.Option.{Option}
 use Rattle.std.specs.declared.option.Option.TheVariants.{None, Some}
 use Rattle.dm_link.specs.declared.Pid.{Pid}
@@ -12,25 +12,44 @@ use Rattle.dm_chart.specs.Spots.{most_rows}
 abbrev pub few : ℕ → ℕ
 few n = if nat_lt n 12 then n else 12
 
--- a column: the axis, the lanes, the notes
+-- the column of a machine: the axis, the lanes
 unfoldable pub column : Frame → ℕ
-column f = 210 + 22 * few (length f.processes)
+column f = 90 + 22 * few (length f.processes)
 
 -- the axis of a machine: where its messages leave, and enter its inbox
 unfoldable pub axis : Frame → ℕ → ℕ
-axis f m = 170 + m * column f
+axis f m = 440 + m * column f
 
 -- the lane of a process on a machine
 unfoldable pub lane_at : Frame → ℕ → ℕ → ℕ
 lane_at f m lane = axis f m + 20 + 22 * few lane
 
--- where the notes of a machine stand
-unfoldable pub beside : Frame → ℕ → ℕ
-beside f m = axis f m + 12 + 22 * few (length f.processes)
+-- where what the rows say stands: left of all machines, so that no arrow goes through it
+abbrev pub words_at : ℕ
+words_at = 160
 
--- where a row stands
+abbrev pub rows_within : ℕ → ℕ
+rows_within row = if nat_lt row most_rows then row else most_rows
+
+-- the rows go down the page in blocks of forty, the first at 1; how many whole ones stand before a row
+unfoldable pub blocks_before : ℕ → ℕ
+blocks_before row = (rows_within row - 1) / 40
+
+-- where a row stands: above each block but the first there is room for names
 unfoldable pub height : ℕ → ℕ
-height row = 190 + 16 * (if nat_lt row most_rows then row else most_rows)
+height row = 190 + 16 * rows_within row + 32 * blocks_before row
+
+-- the last row of a block, the first block at 0
+abbrev pub block_end : ℕ → ℕ
+block_end block = 40 * (block + 1)
+
+-- so far above the first row behind a block
+unfoldable pub above_next : ℕ → ℕ → ℕ
+above_next block up = height (block_end block + 1) - up
+
+-- what goes from a row to a row goes on behind a block
+abbrev pub goes_on : ℕ → ℕ → ℕ → Bool
+goes_on row last block = nat_le row (block_end block) && nat_lt (block_end block) last
 
 -- as much as the legend needs
 abbrev pub at_least_legend : ℕ → ℕ
@@ -38,7 +57,7 @@ at_least_legend n = if nat_lt n 620 then 620 else n
 
 -- the breadth of the picture
 unfoldable pub breadth : Frame → ℕ
-breadth f = at_least_legend (axis f f.machines + 90)
+breadth f = at_least_legend (axis f f.machines)
 
 abbrev pub point : ℕ → ℕ → Point
 point x y = record { x = x; y = y }

@@ -1,4 +1,4 @@
--- The notes: what is written beside the machine of a group, a row a line; of links that follow, by the lines before as well.
+-- The notes: what is written of a machine, a row a line; of links that follow, by the lines before as well.
 use Rattle.std.specs.Prelude.{ℕ, ◌==◌, if◌then◌else◌, codes, List, [], ◌∷◌}
 use Rattle.std.specs.Fmt.{decimal}
 use Rattle.std.specs.declared.option.Option.{Option}
@@ -41,7 +41,7 @@ abbrev pub label_note : Label → Note
 label_note (label.Ran p k) = no_note
 label_note (label.Call p n c) = call_note p n (reply_code c)
 label_note (label.Send p i) = no_note
-label_note (label.Wait p) = no_note
+label_note (label.Wait p) = note (codes "c0") (pid_word p ∷ codes " waits for a message" ∷ [])
 label_note (label.Out p w) = note (codes "c1") (pid_word p ∷ codes " out " ∷ decimal w ∷ [])
 label_note (label.End p y) = note (codes "c1") (pid_word p ∷ codes " ends, why " ∷ decimal (why_code y) ∷ [])
 label_note (label.Receive p i) = note (codes "c0") (pid_word p ∷ codes " receives " ∷ id_word i ∷ [])

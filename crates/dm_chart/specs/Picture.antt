@@ -8,6 +8,7 @@ use Rattle.dm_line.specs.declared.line.Line.{Line}
 use Rattle.dm_chart.specs.declared.chart.Reach.{Reach}
 use Rattle.dm_chart.specs.declared.chart.Reach.TheVariants as reach
 use Rattle.dm_chart.specs.declared.frame.Frame.{Frame}
+use Rattle.dm_chart.specs.declared.frame.Layer.TheVariants as layer
 use Rattle.dm_chart.specs.declared.kept.Kept.{Kept}
 use Rattle.dm_chart.specs.declared.role.Life.{Life}
 use Rattle.dm_chart.specs.declared.role.Life.TheVariants as life
@@ -16,6 +17,7 @@ use Rattle.dm_chart.specs.declared.role.Role.TheVariants as role
 use Rattle.dm_chart.specs.Roles.{role_of}
 use Rattle.dm_chart.specs.Shapes.{shapes}
 use Rattle.dm_chart.specs.Measures.{breadth, height, point}
+use Rattle.dm_chart.specs.Spots.{one_row_more}
 use Rattle.dm_chart.specs.Drawn.{all_drawn, written}
 use Rattle.dm_chart.specs.Legend.{style_sheet, marks, meanings}
 use Rattle.dm_chart.specs.Kept.{kept_of}
@@ -34,8 +36,9 @@ made_in _ = []
 abbrev pub processes_in : List Pid → List Line → List Pid
 processes_in ps ls = ps ++ flat_map (λ l. made_in (role_of l)) ls
 
+-- below the last row there is one of which nothing is said, into which all goes that goes on
 abbrev pub frame_of : ℕ → List Pid → Kept → Frame
-frame_of machines ps k = record { machines = machines; processes = processes_in ps k.lines; numbers = k.numbers; rows = k.rows }
+frame_of machines ps k = record { machines = machines; processes = processes_in ps k.lines; numbers = k.numbers; rows = one_row_more k.rows; layer = layer.Grounds }
 
 -- the attributes of the picture
 abbrev pub extent : Frame → List (List ℕ × List ℕ)
@@ -73,12 +76,19 @@ foot f k r =
 unfoldable pub picture_head : Frame → Kept → List ℕ
 picture_head f k = concat style_sheet ++ concat marks ++ sheet f ++ title f.machines k ++ concat meanings
 
+-- all shapes, a layer on another
+unfoldable pub layers : Frame → List Pid → Kept → List ℕ
+layers f ps k =
+    all_drawn (record f { layer = layer.Grounds }) (shapes f.machines f.rows ps k.lines)
+    ++ all_drawn (record f { layer = layer.Ways }) (shapes f.machines f.rows ps k.lines)
+    ++ all_drawn (record f { layer = layer.Words }) (shapes f.machines f.rows ps k.lines)
+
 abbrev pub picture_in : Frame → List Pid → Kept → Reach → List ℕ
 picture_in f ps k r =
     opening_tag (codes "svg") (extent f)
     ++ picture_head f k
-    ++ all_drawn f (shapes f.machines f.rows ps k.lines)
     ++ foot f k r
+    ++ layers f ps k
     ++ closing (codes "svg")
 
 -- the picture of what is kept, for so many machines and the processes that are there from the start

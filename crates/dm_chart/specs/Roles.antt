@@ -31,11 +31,11 @@ abbrev pub label_role : Label → Role
 label_role (label.Ran p k) = role.Unseen
 label_role (label.Call p n c) = call_role c
 label_role (label.Send p i) = role.Unseen
-label_role (label.Wait p) = role.Unseen
+label_role (label.Wait p) = role.Note (life.Waits p)
 label_role (label.Out p w) = role.Note life.Same
 label_role (label.End p y) = role.Note (life.Ends p)
-label_role (label.Receive p i) = role.Note life.Same
-label_role (label.Refuse p i c) = role.Note life.Same
+label_role (label.Receive p i) = role.Note (life.Wakes p)
+label_role (label.Refuse p i c) = role.Note (life.Wakes p)
 label_role (label.Dropped i) = role.Note life.Same
 label_role (label.Served i) = role.Note (life.Served i)
 label_role (label.Gone i) = role.Note life.Same

@@ -14,8 +14,8 @@ use Rattle.dm_chart.specs.declared.spot.Spot.{Spot}
 use Rattle.dm_chart.specs.declared.style.Style.{Style}
 use Rattle.dm_chart.specs.Roles.{role_of}
 use Rattle.dm_chart.specs.Spots.{first_spot, next_spot}
-use Rattle.dm_chart.specs.Ahead.{first_ahead, is_taken, is_delivery, is_end, is_restart}
-use Rattle.dm_chart.specs.Behind.{was_put, number_among, kills_of}
+use Rattle.dm_chart.specs.Ahead.{first_ahead, is_taken, is_delivery, is_end, is_restart, is_wait_end}
+use Rattle.dm_chart.specs.Behind.{was_put, number_among, kills_of, waits_behind}
 use Rattle.dm_chart.specs.Styles.{style_of}
 
 -- machines and rows are numbers
@@ -24,6 +24,8 @@ pub data Shape : Type 0 where
   Column : ℕ → Shape
   -- a process on a machine, from a row to a row
   Bar : Pid → ℕ → ℕ → ℕ → Shape
+  -- it waits for a message, from a row to a row
+  Waits : Pid → ℕ → ℕ → ℕ → Shape
   -- a process is frozen on a machine at a row, and until it goes on, on a machine at a row
   Moves : Pid → ℕ → ℕ → ℕ → ℕ → Shape
   -- a group begins at a row: which of those that are shown it is, from 0, and its directive
@@ -36,7 +38,7 @@ pub data Shape : Type 0 where
   Again : ℕ → ℕ → ℕ → ℕ → Shape
   -- a packet between two machines, from a row on, that never came
   Lost : ℕ → ℕ → ℕ → Shape
-  -- what is written of a line, behind some others, beside a machine, at a row
+  -- what is written of a line, behind some others, of a machine, at a row
   Beside : ℕ → ℕ → List Line → Line → Shape
 
 -- the row of a place, where there is one
@@ -56,18 +58,29 @@ comes_at a b before s after = if a == b then Some s.row else spot_row (first_ahe
 abbrev pub bar : ℕ → List Line → Pid → ℕ → Spot → List Line → Shape
 bar last all p m s after = Bar p m s.row (row_or last (first_ahead (is_end p (kills_of p all)) s after))
 
+-- how long it waits there
+abbrev pub wait : ℕ → List Line → Pid → Spot → List Line → Shape
+wait last all p s after = Waits p s.machine s.row (row_or last (first_ahead (is_wait_end p (kills_of p all)) s after))
+
+-- one that was frozen while it waited still waits
+abbrev pub wait_if : Bool → ℕ → List Line → Pid → Spot → List Line → List Shape
+wait_if true last all p s after = wait last all p s after ∷ []
+wait_if false last all p s after = []
+
 -- where it goes on; one that doesn't is still frozen behind the last row
 abbrev pub moves_shown : ℕ → Pid → Spot → Option Spot → List Shape
 moves_shown last p s None = Moves p s.machine s.row s.machine last ∷ []
 moves_shown last p s (Some t) = Moves p s.machine s.row t.machine t.row ∷ []
 
-abbrev pub life_shapes : ℕ → List Line → Life → Spot → List Line → List Shape
-life_shapes last all life.Same s after = []
-life_shapes last all (life.Made p) s after = bar last all p s.machine s after ∷ []
-life_shapes last all (life.From p) s after = bar last all p s.machine s after ∷ []
-life_shapes last all (life.Ends p) s after = []
-life_shapes last all (life.Leaves p) s after = moves_shown last p s (first_ahead (is_restart p) s after)
-life_shapes last all (life.Served i) s after = []
+abbrev pub life_shapes : ℕ → List Line → List Line → Life → Spot → List Line → List Shape
+life_shapes last all before life.Same s after = []
+life_shapes last all before (life.Made p) s after = bar last all p s.machine s after ∷ []
+life_shapes last all before (life.From p) s after = (bar last all p s.machine s after ∷ []) ++ wait_if (waits_behind p false before) last all p s after
+life_shapes last all before (life.Ends p) s after = []
+life_shapes last all before (life.Leaves p) s after = moves_shown last p s (first_ahead (is_restart p) s after)
+life_shapes last all before (life.Served i) s after = []
+life_shapes last all before (life.Waits p) s after = wait last all p s after ∷ []
+life_shapes last all before (life.Wakes p) s after = []
 
 -- what becomes of a packet where it is delivered; with its own message it is the message's arrow
 abbrev pub fate : ℕ → ℕ → ℕ → Bool → ℕ → Role → List Shape
@@ -111,7 +124,7 @@ own_shapes last all own before s after (role.Packet a b k n) = sending_shapes a 
 own_shapes last all own before s after (role.Taken a b n) = []
 own_shapes last all own before s after (role.Early a b n) = []
 own_shapes last all own before s after (role.Again a b n) = []
-own_shapes last all own before s after (role.Note way) = life_shapes last all way s after
+own_shapes last all own before s after (role.Note way) = life_shapes last all before way s after
 own_shapes last all own before s after role.Unseen = []
 
 -- the first row of a group has its number and its directive

@@ -48,6 +48,8 @@ seated (life.Made p) s = s
 seated (life.Ends p) s = s
 seated (life.Leaves p) s = s
 seated (life.Served i) s = s
+seated (life.Waits p) s = s
+seated (life.Wakes p) s = s
 
 -- a packet that goes out with its message has no row of its own
 abbrev pub spot_after : Spot → Role → Spot

@@ -66,7 +66,7 @@ loop_name style.Update = codes "#l3"
 loop_name style.Onward = codes "#l4"
 loop_name style.Back = codes "#l5"
 
--- the words beside an arrow
+-- an arrow's words
 abbrev pub label_class : Style → List ℕ
 label_class style.User = codes "n0"
 label_class style.Service = codes "n1"

@@ -2,19 +2,19 @@
 ghost use Rattle.std.specs.Prelude.{◌≡◌, ◌≤◌, ◌-◌, ◌++◌, IfOk, OnOk, codes, length, map, option_to_list};
 ghost use Rattle.std.specs.List.{flat_map};
 ghost use Rattle.dm_chart.specs.Drawn.{all_drawn};
-ghost use Rattle.dm_chart.specs.Picture.{bars_line, boot_pids, extent, foot, foot_line, frame_of, made_in, made_with, picture_head, picture_in, picture_of, processes_in, reach_line, sheet, title};
+ghost use Rattle.dm_chart.specs.Picture.{bars_line, boot_pids, extent, foot, foot_line, frame_of, layers, made_in, made_with, picture_head, picture_in, picture_of, processes_in, reach_line, sheet, title};
 ghost use Rattle.dm_chart.specs.Roles.{role_of};
 ghost use Rattle.dm_chart.specs.Shapes.{columns, first_bar, shapes};
 ghost use Rattle.dm_chart.specs.Spots.{first_spot};
 ghost use Rattle.dm_chart.specs.Xml.{opening_tag};
 
 use crate::draw::{put_column, put_written};
-use crate::frame::{Frame, MOST_LANES, Point, breadth, height};
+use crate::frame::{Frame, Layer, MOST_LANES, Point, breadth, height};
 use crate::kept::Kept;
 use crate::key::{put_marks, put_meanings, put_style_sheet};
 use crate::lines::{put_lines, put_living};
 use crate::role::{Life, Role, role_of};
-use crate::spot::first_spot;
+use crate::spot::{first_spot, more};
 use crate::xml::{Attribute, put_alone, put_closing, put_opening};
 use dm_line::line::Line;
 use dm_link::Pid;
@@ -57,9 +57,9 @@ pub fn picture(
 ) -> Result<Vec<u8>, NoMemory>
     ensures { IfOk result (λ text. text.items ≡ picture_of machines starts.now kept.now reach) }
 {
-    let frame = frame_of(alloc, machines, starts, kept)?;
+    let mut frame = frame_of(alloc, machines, starts, kept)?;
     let mut text = Vec::new(alloc);
-    put_picture(alloc, &mut text, &frame, starts, kept, reach)?;
+    put_picture(alloc, &mut text, &mut frame, starts, kept, reach)?;
     Ok(text)
 }
 
@@ -73,7 +73,8 @@ fn frame_of(alloc: Global, machines: u8, starts: &[Pid], kept: &Kept) -> Result<
         machines,
         processes,
         numbers,
-        rows: kept.rows,
+        rows: more(kept.rows),
+        layer: Layer::Grounds,
     })
 }
 
@@ -153,18 +154,37 @@ fn made_with(life: Life) -> Option<Pid>
 fn put_picture(
     alloc: Global,
     into: &mut Vec<u8>,
-    frame: &Frame,
+    frame: &mut Frame,
     starts: &[Pid],
     kept: &Kept,
     reach: Reach,
 ) -> Result<(), NoMemory>
-    ensures { OnOk result (into.new.items ≡ into.old.items ++ picture_in frame.now starts.now kept.now reach) }
+    ensures { OnOk result (into.new.items ≡ into.old.items ++ picture_in frame.old starts.now kept.now reach) }
 {
     put_extent(into, frame)?;
     put_head(into, frame, kept)?;
-    put_shapes(alloc, into, frame, starts, kept)?;
     put_foot(into, frame, kept, reach)?;
+    put_layers(alloc, into, frame, starts, kept)?;
     put_closing(into, "svg")
+}
+
+/// Draws all shapes, a layer on another.
+#[tactic(auto, unfolding(crate::specs::Picture::layers))]
+fn put_layers(
+    alloc: Global,
+    into: &mut Vec<u8>,
+    frame: &mut Frame,
+    starts: &[Pid],
+    kept: &Kept,
+) -> Result<(), NoMemory>
+    ensures { OnOk result (into.new.items ≡ into.old.items ++ layers frame.old starts.now kept.now) }
+{
+    frame.layer = Layer::Grounds;
+    put_shapes(alloc, into, frame, starts, kept)?;
+    frame.layer = Layer::Ways;
+    put_shapes(alloc, into, frame, starts, kept)?;
+    frame.layer = Layer::Words;
+    put_shapes(alloc, into, frame, starts, kept)
 }
 
 /// Writes what stands before the shapes.
@@ -327,7 +347,7 @@ fn without_lane(frame: &Frame) -> u64
     frame.processes.len().saturating_sub(MOST_LANES) as u64
 }
 
-/// Draws all shapes.
+/// Draws all shapes, in one layer.
 fn put_shapes(
     alloc: Global,
     into: &mut Vec<u8>,

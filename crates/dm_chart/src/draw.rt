@@ -1,11 +1,11 @@
-//! Drawing the shapes of a picture, a function a shape.
-ghost use Rattle.std.specs.Prelude.{◌≡◌, ◌++◌, OnOk, codes, map};
+//! Drawing the shapes of a picture, a function a shape: in each layer what the shape has there.
+ghost use Rattle.std.specs.Prelude.{◌≡◌, ◌≤◌, [], ◌++◌, OnOk, codes, map};
 ghost use Rattle.dm_text.specs.Written.{word_text};
-ghost use Rattle.dm_chart.specs.Measures.{on_axis};
-ghost use Rattle.dm_chart.specs.Drawn.{draw_arrow, draw_bar, draw_beside, draw_column, draw_group, draw_lost, draw_moves, draw_packet, draw_way, directive_words, drawn_mark, stroke, tinted, written};
+ghost use Rattle.dm_chart.specs.Drawn.{bar_name, by_layer, draw_arrow, draw_bar, draw_beside, draw_column, draw_group, draw_lost, draw_marked, draw_moves, draw_packet, draw_waits, draw_way, directive_words, drawn_mark, group_words, heading, heading_again, headings_again, name_again, names_again, stroke, tinted, written};
 
 use crate::frame::{
-    Frame, Place, Point, axis, beside, height, lane_at, number_of, on_axis, on_lane, towards,
+    Frame, Layer, Place, Point, WORDS, above_next, axis, blocks_before, column, goes_on, height,
+    lane_at, number_of, on_axis, on_lane, towards,
 };
 use crate::role::Letter;
 use crate::style::{Style, arrow_class, label_class, loop_name, tint};
@@ -97,7 +97,7 @@ pub fn put_written(
     )
 }
 
-/// Writes words beside a machine.
+/// Writes what a row says, and marks the machine of which it is said.
 #[tactic(auto, unfolding(crate::specs::Drawn::draw_beside))]
 pub fn put_beside(
     into: &mut Vec<u8>,
@@ -107,30 +107,75 @@ pub fn put_beside(
 ) -> Result<(), NoMemory>
     ensures { OnOk result (into.new.items ≡ into.old.items ++ draw_beside place.now.frame.now place.now.m place.now.row class.now (map word_text words.now)) }
 {
-    let p = Point {
-        x: beside(place.frame, place.m),
-        y: height(place.row) - 3,
-    };
-    put_written(into, class, p, words)
+    match place.frame.layer {
+        Layer::Grounds | Layer::Ways => Ok(()),
+        Layer::Words => {
+            put_mark(into, "#note", on_axis(place.frame, place.m, place.row))?;
+            let p = Point {
+                x: WORDS,
+                y: height(place.row) - 3,
+            };
+            put_written(into, class, p, words)
+        }
+    }
 }
 
 /// Draws a machine.
 pub fn put_column(into: &mut Vec<u8>, frame: &Frame, m: u8) -> Result<(), NoMemory>
     ensures { OnOk result (into.new.items ≡ into.old.items ++ draw_column frame.now m) }
 {
+    match frame.layer {
+        Layer::Grounds => {
+            let x = axis(frame, m);
+            put_stroke(
+                into,
+                "ax",
+                Point { x, y: 166 },
+                on_axis(frame, m, frame.rows),
+            )
+        }
+        Layer::Ways => Ok(()),
+        Layer::Words => {
+            put_heading(into, frame, m, 156)?;
+            put_headings_again(into, frame, m)
+        }
+    }
+}
+
+/// Writes a machine's name, so far down.
+#[tactic(auto, unfolding(crate::specs::Drawn::heading))]
+fn put_heading(into: &mut Vec<u8>, frame: &Frame, m: u8, y: u32) -> Result<(), NoMemory>
+    ensures { OnOk result (into.new.items ≡ into.old.items ++ heading frame.now m y) }
+{
+    let x = axis(frame, m) - 8;
+    put_written(into, "m", Point { x, y }, &[Name("machine "), Byte(m)])
+}
+
+/// Writes a machine's name again, behind each block.
+#[tactic(auto, unfolding(crate::specs::Drawn::headings_again), using(crate::proofs::Pieces::below_lemmas))]
+fn put_headings_again(into: &mut Vec<u8>, frame: &Frame, m: u8) -> Result<(), NoMemory>
+    ensures { OnOk result (into.new.items ≡ into.old.items ++ headings_again frame.now m) }
+{
+    for block in 0..blocks_before(frame.rows) {
+        put_heading_again(into, frame, m, block)?;
+    }
+    Ok(())
+}
+
+/// Writes a machine's name again, behind a block.
+fn put_heading_again(into: &mut Vec<u8>, frame: &Frame, m: u8, block: u32) -> Result<(), NoMemory>
+    requires { block ≤ 30 }
+    ensures { OnOk result (into.new.items ≡ into.old.items ++ heading_again frame.now m block) }
+{
     let x = axis(frame, m);
-    put_stroke(
-        into,
-        "ax",
-        Point { x, y: 166 },
-        on_axis(frame, m, frame.rows),
-    )?;
-    put_written(
-        into,
-        "m",
-        Point { x: x - 8, y: 156 },
-        &[Name("machine "), Byte(m)],
-    )
+    let y = above_next(block, 30);
+    let p = Point { x: x - 20, y };
+    let q = Point {
+        x: x + column(frame) - 20,
+        y,
+    };
+    put_stroke(into, "h", p, q)?;
+    put_heading(into, frame, m, above_next(block, 32))
 }
 
 /// Draws a process on a machine, from a row to a row, where it has a lane.
@@ -148,18 +193,98 @@ pub fn put_bar(
     let Some(lane) = lane else {
         return Ok(());
     };
-    put_tinted(
-        into,
-        "b",
-        tint(lane),
-        on_lane(frame, m, lane, row),
-        on_lane(frame, m, lane, last),
-    )?;
-    let p = Point {
-        x: lane_at(frame, m, lane) - 9,
-        y: height(row) - 4,
+    match frame.layer {
+        Layer::Grounds => {
+            put_tinted(
+                into,
+                "b",
+                tint(lane),
+                on_lane(frame, m, lane, row),
+                on_lane(frame, m, lane, last),
+            )
+        }
+        Layer::Ways => Ok(()),
+        Layer::Words => {
+            let x = lane_at(frame, m, lane);
+            put_bar_name(into, x, pid, height(row) - 4)?;
+            put_names_again(into, frame, x, pid, row, last)
+        }
+    }
+}
+
+/// Writes a process's name above its bar, which begins at x.
+#[tactic(auto, unfolding(crate::specs::Drawn::bar_name))]
+fn put_bar_name(into: &mut Vec<u8>, x: u32, pid: Pid, y: u32) -> Result<(), NoMemory>
+    requires { 9 ≤ x }
+    ensures { OnOk result (into.new.items ≡ into.old.items ++ bar_name x pid y) }
+{
+    put_written(into, "s", Point { x: x - 9, y }, &[Process(pid)])
+}
+
+/// Writes a process's name again, behind each block that its bar goes on behind.
+#[tactic(auto, unfolding(crate::specs::Drawn::names_again), using(crate::proofs::Pieces::below_lemmas))]
+fn put_names_again(
+    into: &mut Vec<u8>,
+    frame: &Frame,
+    x: u32,
+    pid: Pid,
+    row: u32,
+    last: u32,
+) -> Result<(), NoMemory>
+    requires { 9 ≤ x }
+    ensures { OnOk result (into.new.items ≡ into.old.items ++ names_again frame.now x pid row last) }
+{
+    for block in 0..blocks_before(frame.rows) {
+        put_name_again(into, x, pid, row, last, block)?;
+    }
+    Ok(())
+}
+
+/// Writes a process's name again behind a block, if its bar goes on there.
+fn put_name_again(
+    into: &mut Vec<u8>,
+    x: u32,
+    pid: Pid,
+    row: u32,
+    last: u32,
+    block: u32,
+) -> Result<(), NoMemory>
+    requires x { 9 ≤ x }
+    requires block { block ≤ 30 }
+    ensures { OnOk result (into.new.items ≡ into.old.items ++ name_again x pid row last block) }
+{
+    if goes_on(row, last, block) {
+        put_bar_name(into, x, pid, above_next(block, 20))
+    } else {
+        Ok(())
+    }
+}
+
+/// Draws that a process waits on a machine, from a row to a row, where it has a lane.
+pub fn put_waits(
+    into: &mut Vec<u8>,
+    frame: &Frame,
+    m: u8,
+    row: u32,
+    last: u32,
+    lane: Option<usize>,
+) -> Result<(), NoMemory>
+    ensures { OnOk result (into.new.items ≡ into.old.items ++ draw_waits frame.now m row last lane) }
+{
+    let Some(lane) = lane else {
+        return Ok(());
     };
-    put_written(into, "s", p, &[Process(pid)])
+    match frame.layer {
+        Layer::Grounds => {
+            put_stroke(
+                into,
+                "w",
+                on_lane(frame, m, lane, row),
+                on_lane(frame, m, lane, last),
+            )
+        }
+        Layer::Ways | Layer::Words => Ok(()),
+    }
 }
 
 /// Draws that a process moves, where it has a lane.
@@ -177,13 +302,18 @@ pub fn put_moves(
     let Some(lane) = lane else {
         return Ok(());
     };
-    put_tinted(
-        into,
-        "v",
-        tint(lane),
-        on_lane(frame, from, lane, row),
-        on_lane(frame, to, lane, last),
-    )
+    match frame.layer {
+        Layer::Grounds | Layer::Words => Ok(()),
+        Layer::Ways => {
+            put_tinted(
+                into,
+                "v",
+                tint(lane),
+                on_lane(frame, from, lane, row),
+                on_lane(frame, to, lane, last),
+            )
+        }
+    }
 }
 
 /// Draws that a group begins.
@@ -196,12 +326,31 @@ pub fn put_group(
 ) -> Result<(), NoMemory>
     ensures { OnOk result (into.new.items ≡ into.old.items ++ draw_group frame.now row group step) }
 {
-    let y = height(row);
-    let top = y - 14;
-    put_stroke(into, "r", Point { x: 10, y: top }, Point { x: 150, y: top })?;
+    match frame.layer {
+        Layer::Grounds => {
+            let y = height(row) - 14;
+            put_stroke(into, "r", Point { x: 10, y }, Point { x: 420, y })
+        }
+        Layer::Ways => Ok(()),
+        Layer::Words => put_group_words(into, frame, row, group, step),
+    }
+}
+
+/// Writes the number and the directive of a group.
+#[tactic(auto, unfolding(crate::specs::Drawn::group_words))]
+fn put_group_words(
+    into: &mut Vec<u8>,
+    frame: &Frame,
+    row: u32,
+    group: u32,
+    step: Step,
+) -> Result<(), NoMemory>
+    ensures { OnOk result (into.new.items ≡ into.old.items ++ group_words frame.now row group step) }
+{
+    let y = height(row) - 3;
     let number = Wide(number_of(frame, group));
-    put_written(into, "g", Point { x: 10, y: y - 3 }, &[number])?;
-    put_directive(into, Point { x: 56, y: y - 3 }, step)
+    put_written(into, "g", Point { x: 10, y }, &[number])?;
+    put_directive(into, Point { x: 56, y }, step)
 }
 
 /// Writes a directive.
@@ -274,6 +423,23 @@ fn put_way(
     }
 }
 
+/// Draws the way of a message, in the layer of ways.
+fn put_arrow_way(
+    into: &mut Vec<u8>,
+    frame: &Frame,
+    style: Style,
+    letter: Letter,
+    row: u32,
+    last: Option<u32>,
+) -> Result<(), NoMemory>
+    ensures { OnOk result (into.new.items ≡ into.old.items ++ by_layer frame.now.layer [] (draw_way frame.now style letter.from letter.to row last) []) }
+{
+    match frame.layer {
+        Layer::Grounds | Layer::Words => Ok(()),
+        Layer::Ways => put_way(into, frame, style, letter.from, letter.to, row, last),
+    }
+}
+
 /// Draws a message from its put to where it enters an inbox.
 pub fn put_arrow(
     into: &mut Vec<u8>,
@@ -285,7 +451,7 @@ pub fn put_arrow(
 ) -> Result<(), NoMemory>
     ensures { OnOk result (into.new.items ≡ into.old.items ++ draw_arrow frame.now style letter row last) }
 {
-    put_way(into, frame, style, letter.from, letter.to, row, last)?;
+    put_arrow_way(into, frame, style, letter, row, last)?;
     let place = Place {
         frame,
         m: letter.from,
@@ -316,12 +482,17 @@ pub fn put_packet(
 ) -> Result<(), NoMemory>
     ensures { OnOk result (into.new.items ≡ into.old.items ++ draw_packet frame.now from to row last) }
 {
-    put_stroke(
-        into,
-        "p",
-        on_axis(frame, from, row),
-        on_axis(frame, to, last),
-    )
+    match frame.layer {
+        Layer::Grounds | Layer::Words => Ok(()),
+        Layer::Ways => {
+            put_stroke(
+                into,
+                "p",
+                on_axis(frame, from, row),
+                on_axis(frame, to, last),
+            )
+        }
+    }
 }
 
 /// Draws a packet that came before its turn, or again.
@@ -334,10 +505,16 @@ pub fn put_marked_packet(
     row: u32,
     last: u32,
 ) -> Result<(), NoMemory>
-    ensures { OnOk result (into.new.items ≡ into.old.items ++ (draw_packet frame.now from to row last ++ drawn_mark name.now (on_axis frame.now to last))) }
+    ensures { OnOk result (into.new.items ≡ into.old.items ++ draw_marked frame.now name.now from to row last) }
 {
-    put_packet(into, frame, from, to, row, last)?;
-    put_mark(into, name, on_axis(frame, to, last))
+    match frame.layer {
+        Layer::Grounds | Layer::Words => Ok(()),
+        Layer::Ways => {
+            let end = on_axis(frame, to, last);
+            put_stroke(into, "p", on_axis(frame, from, row), end)?;
+            put_mark(into, name, end)
+        }
+    }
 }
 
 /// Draws a packet that never came.
@@ -350,7 +527,12 @@ pub fn put_lost(
 ) -> Result<(), NoMemory>
     ensures { OnOk result (into.new.items ≡ into.old.items ++ draw_lost frame.now from to row) }
 {
-    let end = towards(frame, from, to, row, 44, 12);
-    put_stroke(into, "p", on_axis(frame, from, row), end)?;
-    put_mark(into, "#lost", end)
+    match frame.layer {
+        Layer::Grounds | Layer::Words => Ok(()),
+        Layer::Ways => {
+            let end = towards(frame, from, to, row, 44, 12);
+            put_stroke(into, "p", on_axis(frame, from, row), end)?;
+            put_mark(into, "#lost", end)
+        }
+    }
 }

@@ -1,7 +1,7 @@
 //! Where things stand in a picture, in units of the picture.
 ghost use Rattle.std.specs.Prelude.{◌≡◌, ◌≤◌, position};
 ghost use Rattle.dm_link.specs.Names.{pid_eq};
-ghost use Rattle.dm_chart.specs.Measures.{at_least_legend, axis, beside, breadth, column, few, height, lane_at, lane_of, number_shown, on_axis, on_lane, towards};
+ghost use Rattle.dm_chart.specs.Measures.{above_next, at_least_legend, axis, block_end, blocks_before, breadth, column, few, goes_on, height, lane_at, lane_of, number_shown, on_axis, on_lane, rows_within, towards};
 
 use crate::scan::same_pid;
 use crate::spot::MOST_ROWS;
@@ -11,8 +11,23 @@ use dm_lists::Items;
 /// The breadth of the legend.
 const LEGEND: u32 = 620;
 
+/// Where what the rows say stands: left of all machines, so that no arrow goes through it.
+pub const WORDS: u32 = 160;
+
 /// The most processes that have a lane.
 pub const MOST_LANES: usize = 12;
+
+/// The rows of a block: above each block but the first the names come again.
+const BLOCK: u32 = 40;
+
+/// What is drawn of the shapes: what lies below, what goes from machine to machine, and last the words, so that nothing lies
+/// on a word.
+#[derive(Clone, Copy)]
+pub enum Layer {
+    Grounds,
+    Ways,
+    Words,
+}
 
 /// A point of a picture.
 #[derive(Clone, Copy)]
@@ -29,11 +44,13 @@ pub struct Frame {
     pub processes: Items<Pid>,
     /// The number of each group that is shown.
     pub numbers: Items<u64>,
-    /// How many rows there are.
+    /// How many rows there are, with one below the last of which nothing is said: all goes into it that goes on.
     pub rows: u32,
+    /// The layer that is drawn now.
+    pub layer: Layer,
 }
 
-/// A row beside a machine of a picture.
+/// A row, and the machine of which it says something.
 #[derive(Clone, Copy)]
 pub struct Place<'a> {
     pub frame: &'a Frame,
@@ -49,52 +66,87 @@ fn few(count: usize) -> u32
     if count < MOST_LANES { count as u32 } else { 12 }
 }
 
-/// The breadth of a column: the axis, the lanes, the notes.
+/// The breadth of a machine's column: the axis, the lanes.
 #[tactic(auto, unfolding(crate::specs::Measures::column))]
 pub fn column(frame: &Frame) -> u32
     ensures column { result ≡ column frame.now }
     ensures most { result ≤ 500 }
 {
-    210 + 22 * few(frame.processes.len())
+    90 + 22 * few(frame.processes.len())
 }
 
 /// Where the axis of a machine stands: where its messages leave and enter its inbox.
 #[tactic(auto, unfolding(crate::specs::Measures::axis))]
 pub fn axis(frame: &Frame, m: u8) -> u32
     ensures axis { result ≡ axis frame.now m }
-    ensures least { 170 ≤ result }
+    ensures least { 440 ≤ result }
     ensures most { result ≤ 200000 }
 {
-    170 + u32::from(m) * column(frame)
+    440 + u32::from(m) * column(frame)
 }
 
 /// Where the lane of a process stands on a machine.
 #[tactic(auto, unfolding(crate::specs::Measures::lane_at))]
 pub fn lane_at(frame: &Frame, m: u8, lane: usize) -> u32
     ensures lane { result ≡ lane_at frame.now m lane }
-    ensures least { 170 ≤ result }
+    ensures least { 440 ≤ result }
     ensures most { result ≤ 210000 }
 {
     axis(frame, m) + 20 + 22 * few(lane)
 }
 
-/// Where the notes of a machine stand.
-#[tactic(auto, unfolding(crate::specs::Measures::beside))]
-pub fn beside(frame: &Frame, m: u8) -> u32
-    ensures beside { result ≡ beside frame.now m }
-    ensures most { result ≤ 210000 }
+fn rows_within(row: u32) -> u32
+    ensures within { result ≡ rows_within row }
+    ensures most { result ≤ MOST_ROWS }
 {
-    axis(frame, m) + 12 + 22 * few(frame.processes.len())
+    if row < MOST_ROWS { row } else { MOST_ROWS }
 }
 
-/// Where a row stands.
+/// How many whole blocks stand before a row.
+#[tactic(auto, unfolding(crate::specs::Measures::blocks_before))]
+pub fn blocks_before(row: u32) -> u32
+    ensures blocks { result ≡ blocks_before row }
+    ensures most { result ≤ 30 }
+{
+    rows_within(row).saturating_sub(1) / BLOCK
+}
+
+/// Where a row stands: above each block but the first there is room for names.
 #[tactic(auto, unfolding(crate::specs::Measures::height))]
 pub fn height(row: u32) -> u32
     ensures height { result ≡ height row }
     ensures least { 190 ≤ result }
-    ensures most { result ≤ 20000 }
+    ensures most { result ≤ 21000 }
 {
-    190 + 16 * (if row < MOST_ROWS { row } else { MOST_ROWS })
+    190 + 16 * rows_within(row) + 32 * blocks_before(row)
+}
+
+/// The last row of a block, the first block at 0.
+fn block_end(block: u32) -> u32
+    requires { block ≤ 30 }
+    ensures end { result ≡ block_end block }
+    ensures most { result ≤ 1240 }
+{
+    BLOCK * (block + 1)
+}
+
+/// So far above the first row behind a block.
+#[tactic(auto, unfolding(crate::specs::Measures::above_next))]
+pub fn above_next(block: u32, up: u32) -> u32
+    requires block { block ≤ 30 }
+    requires up { up ≤ 100 }
+    ensures { result ≡ above_next block up }
+{
+    height(block_end(block) + 1) - up
+}
+
+/// Whether what goes from a row to a row goes on behind a block.
+pub fn goes_on(row: u32, last: u32, block: u32) -> bool
+    requires { block ≤ 30 }
+    ensures { result ≡ goes_on row last block }
+{
+    let end = block_end(block);
+    row <= end && end < last
 }
 
 /// A row on the axis of a machine.
@@ -135,7 +187,7 @@ pub fn towards(frame: &Frame, from: u8, to: u8, row: u32, far: u32, down: u32) -
 pub fn breadth(frame: &Frame) -> u32
     ensures { result ≡ breadth frame.now }
 {
-    at_least_legend(axis(frame, frame.machines) + 90)
+    at_least_legend(axis(frame, frame.machines))
 }
 
 /// As much as the legend needs.

@@ -1,17 +1,20 @@
 //! The shapes of lines.
 ghost use Rattle.std.specs.Prelude.{◌≡◌, [], ◌∷◌, ◌++◌, OnOk, false};
 ghost use Rattle.dm_chart.specs.Ahead.{first_ahead, is_restart};
+ghost use Rattle.dm_chart.specs.Behind.{waits_behind};
 ghost use Rattle.dm_chart.specs.Drawn.{all_drawn};
-ghost use Rattle.dm_chart.specs.Shapes.{bar, comes_at, deliveries, fate_here, group_shapes, letter_shapes, life_shapes, line_shapes, moves_shown, own_shapes, sending_shapes, shapes_from};
+ghost use Rattle.dm_chart.specs.Shapes.{bar, comes_at, deliveries, fate_here, group_shapes, letter_shapes, life_shapes, line_shapes, moves_shown, own_shapes, sending_shapes, shapes_from, wait, wait_if};
 ghost use Rattle.dm_chart.specs.Spots.{first_spot};
 
 use crate::draw::{
-    put_arrow, put_bar, put_group, put_lost, put_marked_packet, put_moves, put_packet,
+    put_arrow, put_bar, put_group, put_lost, put_marked_packet, put_moves, put_packet, put_waits,
 };
 use crate::frame::{Frame, Place, lane_of};
 use crate::notes::put_note;
 use crate::role::{Letter, Life, Role, role_of};
-use crate::scan::{Wanted, first_ahead, is_delivery, kills_of, number_among, was_put};
+use crate::scan::{
+    Wanted, first_ahead, is_delivery, kills_of, number_among, waits_behind, was_put,
+};
 use crate::spot::{Spot, first_spot, next_spot};
 use crate::style::style_of;
 use dm_line::line::Line;
@@ -132,7 +135,7 @@ fn put_role(
             };
             put_sending(into, frame, sending, spot, page.after)
         }
-        Role::Note(life) => put_life(alloc, into, frame, life, spot, page.all, page.after),
+        Role::Note(life) => put_life(alloc, into, frame, page, life, spot),
         Role::Head(_)
         | Role::Taken { .. }
         | Role::Early { .. }
@@ -261,27 +264,82 @@ fn put_life(
     alloc: Global,
     into: &mut Vec<u8>,
     frame: &Frame,
+    page: &Page,
     life: Life,
+    spot: Spot,
+) -> Result<(), NoMemory>
+    ensures { OnOk result (into.new.items ≡ into.old.items ++
+        all_drawn frame.now (life_shapes frame.now.rows page.now.all.now page.now.before.now life spot page.now.after.now)) }
+{
+    let m = spot.machine;
+    match life {
+        Life::Made(pid) => put_living(alloc, into, frame, pid, m, spot, page.all, page.after),
+        Life::From(pid) => put_going_on(alloc, into, frame, page, pid, spot),
+        Life::Leaves(pid) => put_moving(into, frame, pid, spot, page.after),
+        Life::Waits(pid) => put_waiting(alloc, into, frame, pid, spot, page.all, page.after),
+        Life::Same | Life::Ends(_) | Life::Served(_) | Life::Wakes(_) => Ok(()),
+    }
+}
+
+/// Draws a process's life from where it goes on, and that it waits, where it did when it was frozen.
+#[tactic(auto, using(crate::proofs::Walks::drawn_lemmas))]
+fn put_going_on(
+    alloc: Global,
+    into: &mut Vec<u8>,
+    frame: &Frame,
+    page: &Page,
+    pid: Pid,
+    spot: Spot,
+) -> Result<(), NoMemory>
+    ensures { OnOk result (into.new.items ≡ into.old.items ++
+        all_drawn frame.now
+        ((bar frame.now.rows page.now.all.now pid spot.machine spot page.now.after.now ∷ [])
+        ++ wait_if (waits_behind pid false page.now.before.now) frame.now.rows page.now.all.now pid spot page.now.after.now)) }
+{
+    put_living(
+        alloc,
+        into,
+        frame,
+        pid,
+        spot.machine,
+        spot,
+        page.all,
+        page.after,
+    )?;
+    if waits_behind(page.before, pid) {
+        put_waiting(alloc, into, frame, pid, spot, page.all, page.after)
+    } else {
+        Ok(())
+    }
+}
+
+/// Draws that a process waits, from a place on.
+#[tactic(auto, unfolding(crate::specs::Ahead::is_wanted), using(crate::proofs::Walks::drawn_lemmas))]
+fn put_waiting(
+    alloc: Global,
+    into: &mut Vec<u8>,
+    frame: &Frame,
+    pid: Pid,
     spot: Spot,
     lines: &[Line],
     after: &[Line],
 ) -> Result<(), NoMemory>
-    ensures { OnOk result (into.new.items ≡ into.old.items ++ all_drawn frame.now (life_shapes frame.now.rows lines.now life spot after.now)) }
+    ensures { OnOk result (into.new.items ≡ into.old.items ++ all_drawn frame.now (wait frame.now.rows lines.now pid spot after.now ∷ [])) }
 {
-    match life {
-        Life::Made(pid) | Life::From(pid) => put_living(
-            alloc,
-            into,
-            frame,
-            pid,
-            spot.machine,
-            spot,
-            lines,
-            after,
-        ),
-        Life::Leaves(pid) => put_moving(into, frame, pid, spot, after),
-        Life::Same | Life::Ends(_) | Life::Served(_) => Ok(()),
-    }
+    let kills = kills_of(alloc, lines, pid)?;
+    let kills = kills.as_slice();
+    let last = match first_ahead(Wanted::WaitEnd { pid, kills }, spot, after) {
+        Some(found) => found.row,
+        None => frame.rows,
+    };
+    put_waits(
+        into,
+        frame,
+        spot.machine,
+        spot.row,
+        last,
+        lane_of(frame, pid),
+    )
 }
 
 /// Draws a process's life on a machine, from a place on.

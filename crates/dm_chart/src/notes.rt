@@ -1,4 +1,4 @@
-//! The notes beside machines, a row a line.
+//! The notes, a row a line.
 ghost use Rattle.std.specs.Prelude.{◌≡◌, [], ◌∷◌, ◌++◌, OnOk, codes};
 ghost use Rattle.std.specs.Fmt.{decimal};
 ghost use Rattle.dm_message.specs.Outcomes.{code_of_outcome};
@@ -118,7 +118,7 @@ fn note_said(
     put_beside(into, place, class, &[Process(pid), Name(does), Number(n)])
 }
 
-/// Writes the note of a line behind some others beside a machine, where it has one.
+/// Writes the note of a line behind some others, of a machine, where it has one.
 pub fn put_note(
     into: &mut Vec<u8>,
     place: &Place<'_>,
@@ -321,7 +321,15 @@ fn put_label_note(into: &mut Vec<u8>, place: &Place<'_>, label: Label) -> Result
     ensures { OnOk result (into.new.items ≡ into.old.items ++ draw_note place.now.frame.now place.now.m place.now.row (label_note label)) }
 {
     match label {
-        Label::Ran { .. } | Label::Send { .. } | Label::Wait { .. } | Label::Took { .. } => Ok(()),
+        Label::Ran { .. } | Label::Send { .. } | Label::Took { .. } => Ok(()),
+        Label::Wait { pid } => {
+            put_beside(
+                into,
+                place,
+                PLAIN,
+                &[Process(pid), Name(" waits for a message")],
+            )
+        }
         Label::Call { pid, number, reply } => { put_call(into, place, pid, number, reply.code()) }
         Label::Out { pid, word } => note_said(into, place, RESULT, pid, " out ", word),
         Label::End { pid, why } => {

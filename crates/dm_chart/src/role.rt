@@ -23,6 +23,10 @@ pub enum Life {
     Leaves(Pid),
     /// It ends where this is a message that kills.
     Served(MsgId),
+    /// It waits for a message.
+    Waits(Pid),
+    /// It has one.
+    Wakes(Pid),
 }
 
 /// A message that is put, from a machine to a machine.
@@ -50,7 +54,7 @@ pub enum Role {
     Early { from: u8, to: u8, n: u32 },
     /// Message number n comes again.
     Again { from: u8, to: u8, n: u32 },
-    /// A note stands beside the machine of the group.
+    /// A note is written, of the machine of the group.
     Note(Life),
     /// Nothing is seen of it.
     Unseen,
@@ -109,15 +113,14 @@ fn label_role(label: Label) -> Role
     ensures { result ≡ label_role label }
 {
     match label {
-        Label::Ran { .. } | Label::Send { .. } | Label::Wait { .. } | Label::Took { .. } =>
-            Role::Unseen,
+        Label::Ran { .. } | Label::Send { .. } | Label::Took { .. } => Role::Unseen,
         Label::Call { reply, .. } => call_role(reply),
         Label::End { pid, .. } => Role::Note(Life::Ends(pid)),
         Label::Served { id } => Role::Note(Life::Served(id)),
         Label::Created { pid, .. } => Role::Note(Life::Made(pid)),
+        Label::Wait { pid } => Role::Note(Life::Waits(pid)),
+        Label::Receive { pid, .. } | Label::Refuse { pid, .. } => Role::Note(Life::Wakes(pid)),
         Label::Out { .. }
-        | Label::Receive { .. }
-        | Label::Refuse { .. }
         | Label::Dropped { .. }
         | Label::Gone { .. }
         | Label::NoSpace { .. }

@@ -1,9 +1,9 @@
 //! What the lines ahead and behind tell of a line.
-ghost use Rattle.std.specs.Prelude.{◌≡◌, ◌++◌, IfOk, OnOk, option_to_list};
+ghost use Rattle.std.specs.Prelude.{◌≡◌, ◌++◌, IfOk, OnOk, false, option_to_list};
 ghost use Rattle.dm_link.specs.Names.{pid_eq};
 ghost use Rattle.dm_message.specs.Ids.{id_eq};
-ghost use Rattle.dm_chart.specs.Ahead.{first_ahead, is_delivery, is_end, is_restart, is_taken, is_wanted};
-ghost use Rattle.dm_chart.specs.Behind.{kill_in, kill_with, kills_of, letter_last, message_is_among, news_behind, news_here, news_of, number_among, puts_between, puts_id, puts_it, was_put};
+ghost use Rattle.dm_chart.specs.Ahead.{first_ahead, is_delivery, is_end, is_restart, is_taken, is_wait_end, is_wanted};
+ghost use Rattle.dm_chart.specs.Behind.{kill_in, kill_with, kills_of, letter_last, message_is_among, news_behind, news_here, news_of, number_among, puts_between, puts_id, puts_it, waits_behind, waits_on, waits_with, was_put};
 
 use crate::role::{Letter, Life, Role, role_of};
 use crate::spot::{Spot, next_spot};
@@ -24,6 +24,8 @@ pub enum Wanted<'a> {
     Delivery { from: u8, to: u8, k: u64 },
     /// A process's life on a machine ends; these are the messages that kill it.
     End { pid: Pid, kills: &'a [MsgId] },
+    /// It waits no more: it has a message, or its life on the machine ends.
+    WaitEnd { pid: Pid, kills: &'a [MsgId] },
     /// A process goes on after it has moved.
     Restart(Pid),
 }
@@ -52,6 +54,7 @@ fn is_wanted(wanted: Wanted, role: Role) -> bool
         Wanted::Taken { from, to, n } => is_taken(from, to, n, role),
         Wanted::Delivery { from, to, k } => is_delivery(from, to, k, role),
         Wanted::End { pid, kills } => is_end(pid, kills, role),
+        Wanted::WaitEnd { pid, kills } => is_wait_end(pid, kills, role),
         Wanted::Restart(pid) => is_restart(pid, role),
     }
 }
@@ -83,6 +86,18 @@ fn is_end(pid: Pid, kills: &[MsgId], role: Role) -> bool
     ensures { result ≡ is_end pid kills.now role }
 {
     match role {
+        Role::Note(Life::Ends(p)) => same_pid(p, pid),
+        Role::Note(Life::Leaves(p)) => same_pid(p, pid),
+        Role::Note(Life::Served(id)) => is_among(id, kills),
+        _ => false,
+    }
+}
+
+fn is_wait_end(pid: Pid, kills: &[MsgId], role: Role) -> bool
+    ensures { result ≡ is_wait_end pid kills.now role }
+{
+    match role {
+        Role::Note(Life::Wakes(p)) => same_pid(p, pid),
         Role::Note(Life::Ends(p)) => same_pid(p, pid),
         Role::Note(Life::Leaves(p)) => same_pid(p, pid),
         Role::Note(Life::Served(id)) => is_among(id, kills),
@@ -163,6 +178,38 @@ fn kill_with(pid: Pid, letter: Letter) -> Option<MsgId>
             }
         }
         _ => None,
+    }
+}
+
+/// Whether a process waits behind these lines.
+#[tactic(auto, using(crate::proofs::Walks::wait_lemmas))]
+pub fn waits_behind(lines: &[Line], pid: Pid) -> bool
+    ensures { result ≡ waits_behind pid false lines.now }
+{
+    let mut waits = false;
+    for line in lines {
+        waits = waits_on(pid, waits, role_of(line));
+    }
+    waits
+}
+
+/// Whether a process waits, with a line of this role.
+fn waits_on(pid: Pid, waits: bool, role: Role) -> bool
+    ensures { result ≡ waits_on pid waits role }
+{
+    match role {
+        Role::Note(life) => waits_with(pid, waits, life),
+        _ => waits,
+    }
+}
+
+fn waits_with(pid: Pid, waits: bool, life: Life) -> bool
+    ensures { result ≡ waits_with pid waits life }
+{
+    match life {
+        Life::Waits(p) => { if same_pid(p, pid) { true } else { waits } }
+        Life::Wakes(p) => { if same_pid(p, pid) { false } else { waits } }
+        _ => waits,
     }
 }
 

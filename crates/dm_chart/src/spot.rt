@@ -116,7 +116,7 @@ fn without_row(spot: Spot) -> Spot
 }
 
 /// One more of what a picture has at most so many of.
-fn more(n: u32) -> u32
+pub fn more(n: u32) -> u32
     ensures more { result ≡ one_row_more n }
     ensures most { result ≤ MOST_ROWS }
 {
@@ -130,7 +130,13 @@ fn seated(spot: Spot, life: Life) -> Spot
 {
     match life {
         Life::From(pid) => sits(spot, pid),
-        Life::Same | Life::Made(_) | Life::Ends(_) | Life::Leaves(_) | Life::Served(_) => spot,
+        Life::Same
+        | Life::Made(_)
+        | Life::Ends(_)
+        | Life::Leaves(_)
+        | Life::Served(_)
+        | Life::Waits(_)
+        | Life::Wakes(_) => spot,
     }
 }
 

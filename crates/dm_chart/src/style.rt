@@ -98,7 +98,7 @@ pub fn loop_name(style: Style) -> &'static str
     }
 }
 
-/// The class of the words beside an arrow.
+/// The class of an arrow's words.
 pub fn label_class(style: Style) -> &'static str
     ensures { result.now ≡ label_class style }
 {

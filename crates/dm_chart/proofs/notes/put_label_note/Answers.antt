@@ -10,3 +10,7 @@ returns-in-End c =
 pub returns-in-Gone : goal.returns-in-Gone
 returns-in-Gone c =
     subst (λ (l : Label). OnOk c.note_message-in-Gone.result (c.note_message-in-Gone.new.into.items ≡ c.args.into.now.items ++ draw_note c.args.place.now.frame.now c.args.place.now.m c.args.place.now.row (label_note l))) (sym c.in-Gone.is) c.note_message-in-Gone.ensures
+
+pub returns-in-Wait : goal.returns-in-Wait
+returns-in-Wait c =
+    subst (λ (l : Label). OnOk c.put_beside.result (c.put_beside.new.into.items ≡ c.args.into.now.items ++ draw_note c.args.place.now.frame.now c.args.place.now.m c.args.place.now.row (label_note l))) (sym c.in-Wait.is) c.put_beside.ensures
