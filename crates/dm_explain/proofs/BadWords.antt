@@ -1,6 +1,5 @@
 -- The operand that is refused, word by word.
-use Rattle.dm_explain.proofs.Names.{◌≡◌, ℕ, ◌+◌, Bool, true, false, if◌then◌else◌, List, [], ◌∷◌, ap, ◌∙◌, BadWord, bad_word, is_fine}
-use Rattle.std.specs.declared.option.Option.{Option}
+use Rattle.dm_explain.proofs.Names.{◌≡◌, ℕ, ◌+◌, Bool, true, false, if◌then◌else◌, List, [], ◌∷◌, ap, ◌∙◌, bad_word, is_fine}
 use Rattle.std.specs.declared.option.Option.TheVariants.{None, Some}
 use Rattle.dm_explain.specs.declared.source.Takes.{Takes}
 

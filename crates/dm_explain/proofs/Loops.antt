@@ -1,6 +1,6 @@
 -- Loops that look for the first that isn't good, and for a line.
-use Rattle.dm_explain.proofs.Names.{◌≡◌, ℕ, ◌+◌, ◌-◌, ◌<◌, ◌≤◌, zero, suc, Bool, true, false, ◌||◌, if◌then◌else◌, List, [], ◌∷◌, ◌++◌, codes, length, get_or, drop, map, slice_get, refl, ap, ◌∙◌, None, arith, drop_of_length-le, Value, Data}
-use Rattle.dm_explain.proofs.Names.{get_item, items_view, has_another, has_only, is_later, first_bad, key_fault, keys_text, wish_fault, Wish, line_or_nothing}
+use Rattle.dm_explain.proofs.Names.{◌≡◌, ℕ, ◌+◌, ◌-◌, ◌<◌, ◌≤◌, zero, suc, Bool, true, false, ◌||◌, if◌then◌else◌, List, [], ◌∷◌, length, get_or, drop, map, slice_get, refl, ap, ◌∙◌, None, arith, drop_of_length-le, Value, Data}
+use Rattle.dm_explain.proofs.Names.{get_item, items_view, has_another, has_only, is_later, first_bad, key_fault, other_keys_told, wish_fault, Wish, line_or_nothing}
 use Rattle.dm_explain.proofs.Pieces.{get_or_same, read_at}
 
 pub bad-end : {K W : Type 0} (f : K → W) (good : W → Bool) (told : W → List ℕ) (other : List ℕ) (ks : List K) (i : ℕ) → length ks ≤ i → first_bad good told other (map f (drop i ks)) ≡ other
@@ -29,9 +29,9 @@ bad-here-copied f good told other ks i d within fails = bad-here f good told oth
 pub ruleset bad_lemmas = (bad-end, bad-more, bad-here)
 
 -- keys that aren't those that a table may have
-pub other-keys : (ws : List Wish) (other : List ℕ) (d : Data) → has_only (map (λ w. w.key) ws) d ≡ false → key_fault ws other d ≡ codes "its keys may be" ++ keys_text ws
+pub other-keys : (ws : List Wish) (other : List ℕ) (d : Data) → has_only (map (λ w. w.key) ws) d ≡ false → key_fault ws other d ≡ other_keys_told ws (map (λ w. w.key) ws) d
 unfolding key_fault
-other-keys ws other d fails = ap (λ b. if b then wish_fault ws other d else codes "its keys may be" ++ keys_text ws) fails
+other-keys ws other d fails = ap (λ b. if b then wish_fault ws other d else other_keys_told ws (map (λ w. w.key) ws) d) fails
 
 -- the first of some lines, and a later one
 pub line-first : (ls : List (List ℕ)) (l : List ℕ) (rest : List (List ℕ)) (left : ℕ) → ls ≡ l ∷ rest → left ≡ 0 → line_or_nothing (slice_get ls left) ≡ l

@@ -10,8 +10,18 @@ pub use Rattle.dm_boot.proofs.Imports.{Data, Value, drop_more, drop_of_length-le
 pub use Rattle.dm_boot.specs.Tables.{has_only}
 pub use Rattle.dm_reading.specs.Words.{source_words}
 unfoldable pub use Rattle.dm_explain.specs.BadSources.{bad_word, is_fine}
+pub use Rattle.dm_asm.specs.declared.labels.Place.{Place}
+pub use Rattle.dm_asm.specs.declared.refusals.Why.{Why}
+pub use Rattle.dm_explain.specs.declared.program.labels.Spot.{Spot}
+pub use Rattle.dm_explain.specs.declared.source.Takes.{Takes}
+pub use Rattle.dm_explain.specs.TextFaults.{or_why, place_of}
+unfoldable pub use Rattle.dm_explain.specs.TextFaults.{operand_why, operands_why, place_in}
+pub use Rattle.dm_explain.specs.TextPlace.{next_line, opens}
+unfoldable pub use Rattle.dm_explain.specs.TextPlace.{line_before}
+unfoldable pub use Rattle.dm_explain.specs.Told.{later_lines}
 pub use Rattle.dm_explain.specs.BadSources.{BadWord}
-pub use Rattle.dm_explain.specs.Faults.{is_met, is_within, keys_text}
+pub use Rattle.dm_explain.specs.Faults.{is_met, is_within, keys_text, other_keys_told}
+unfoldable pub use Rattle.dm_explain.specs.Faults.{first_unknown}
 unfoldable pub use Rattle.dm_explain.specs.Faults.{first_bad, key_fault, limit_told, number_fault, wish_fault, wish_told}
 pub use Rattle.dm_explain.specs.LineAt.{line_at, line_or_nothing}
 pub use Rattle.dm_explain.specs.Parts.{part_text, shown_byte}

@@ -41,7 +41,7 @@ pub record TellsUnread (bytes text : List ℕ) : Type 0 where
 -- a document, if there is one, that breaks a rule
 abbrev pub TellsBroken : List ℕ → Option Members → BootRule → ℕ → List ℕ → Type 0
 TellsBroken bytes None rule place text = TellsUnread bytes text
-TellsBroken bytes (Some ms) rule place text = text ≡ broken_told rule place (table ms)
+TellsBroken bytes (Some ms) rule place text = text ≡ broken_told bytes rule place (table ms)
 
 -- a document that breaks none: the system, and its parts
 abbrev pub TellsSystem : Option Members → Boot → List ℕ → Type 0

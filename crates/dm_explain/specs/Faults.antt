@@ -3,11 +3,11 @@ use Rattle.std.specs.Prelude.{ℕ, not, Bool, if◌then◌else◌, ℤ, codes, L
 use Rattle.std.specs.List.{concat, flat_map}
 use Rattle.std.specs.Option.{is_some, option_and_then}
 use Rattle.std.specs.Fmt.{decimal}
-use Rattle.toml.specs.Data.{Data, get, as_array, as_bool, as_integer, as_str}
-use Rattle.dm_boot.specs.Tables.{has_only, number_at}
+use Rattle.toml.specs.Data.{Data, Members, get, as_array, as_bool, as_integer, as_str, member, no_members, table}
+use Rattle.dm_boot.specs.Tables.{has_only, is_known, number_at}
 use Rattle.dm_explain.specs.declared.wanted.Sort.{Sort}
 use Rattle.dm_explain.specs.declared.wanted.Sort.TheVariants.{Integer, Text, Truth, Array}
-use Rattle.dm_explain.specs.Parts.{integer_text}
+use Rattle.dm_explain.specs.Parts.{integer_text, quoted}
 use Rattle.dm_explain.specs.Wanted.{Wish, Limit, sort_words}
 
 -- the key has what it must be
@@ -45,9 +45,27 @@ wish_fault ws other d = first_bad (λ w. is_met w d) (λ w. wish_told w d) other
 abbrev pub keys_text : List Wish → List ℕ
 keys_text ws = flat_map (λ w. codes " " ++ w.key) ws
 
+-- the first of these members whose key isn't among some
+unfoldable pub first_unknown : List (List ℕ) → Members → Option (List ℕ)
+first_unknown keys no_members = None
+first_unknown keys (member k d ms) = if is_known keys k then first_unknown keys ms else Some k
+
+abbrev pub unknown_key : List (List ℕ) → Data → Option (List ℕ)
+unknown_key keys (table ms) = first_unknown keys ms
+unknown_key keys _ = None
+
+abbrev pub unknown_told : Option (List ℕ) → List ℕ
+unknown_told None = []
+unknown_told (Some k) = concat (codes ", not " ∷ quoted k ∷ [])
+
+-- the keys that a table may have, and one that it has beside them
+abbrev pub other_keys_told : List Wish → List (List ℕ) → Data → List ℕ
+other_keys_told ws keys d = codes "its keys may be" ++ keys_text ws ++ unknown_told (unknown_key keys d)
+
 -- what is wrong with the keys of a table, or something else
 unfoldable pub key_fault : List Wish → List ℕ → Data → List ℕ
-key_fault ws other d = if has_only (map (λ w. w.key) ws) d then wish_fault ws other d else codes "its keys may be" ++ keys_text ws
+key_fault ws other d =
+    if has_only (map (λ w. w.key) ws) d then wish_fault ws other d else other_keys_told ws (map (λ w. w.key) ws) d
 
 -- the integer at a key
 unfoldable pub integer_at : List ℕ → Data → Option ℤ

@@ -3,6 +3,8 @@ pub mod LineAt
 pub mod Wanted
 pub mod Faults
 pub mod BadSources
+pub mod TextFaults
+pub mod TextPlace
 pub mod Told
 pub mod System
 pub mod SystemParts

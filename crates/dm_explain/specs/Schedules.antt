@@ -103,9 +103,17 @@ fault_told machines NotANumber line = missing_told (bad_operand machines (words 
 fault_told machines OutOfRange line = outside_told machines line
 fault_told machines SameMachine line = said (codes "the two machines are one") line
 
+-- what a number is, behind a line in which none stands where one must
+abbrev pub number_note : LineFault → List ℕ
+number_note NotANumber = codes "    a number has 1 to 10 digits alone\n"
+number_note UnknownWord = []
+number_note WrongCount = []
+number_note OutOfRange = []
+number_note SameMachine = []
+
 abbrev pub line_told : List ℕ → ℕ → ℕ → LineFault → List ℕ
 line_told bytes machines line fault =
-    concat (codes "schedule, line " ∷ decimal line ∷ codes ": why " ∷ decimal (number_of_fault fault) ∷ codes ": " ∷ []) ++ fault_told machines fault (line_at line (lines bytes)) ++ codes "\n"
+    concat (codes "schedule, line " ∷ decimal line ∷ codes ": why " ∷ decimal (number_of_fault fault) ∷ codes ": " ∷ []) ++ fault_told machines fault (line_at line (lines bytes)) ++ codes "\n" ++ number_note fault
 
 -- a schedule, or its first bad line
 abbrev pub schedule_told : List ℕ → ℕ → Schedule → List ℕ

@@ -1,10 +1,14 @@
 -- What is said of a boot file that breaks a rule.
-use Rattle.std.specs.Prelude.{ℕ, Bool, if◌then◌else◌, codes, List, [], ◌∷◌, ◌++◌, length, Option, None, Some, Result, Ok, Err}
+use Rattle.std.specs.Prelude.{ℕ, ◌+◌, nat_lt, Bool, if◌then◌else◌, codes, List, [], ◌∷◌, ◌++◌, length, Option, None, Some, Result, Ok, Err}
 use Rattle.std.specs.List.{concat}
 use Rattle.std.specs.Fmt.{decimal}
-use Rattle.toml.specs.Data.{Data, get_item}
+use Rattle.std.specs.Option.{is_some}
+use Rattle.toml.specs.Data.{Data, as_table, get, get_item}
 use Rattle.dm_asm.specs.declared.refusals.Why.{Why}
-use Rattle.dm_asm.specs.Assembled.{assembled}
+use Rattle.dm_asm.specs.declared.refusals.Why.TheVariants.{BadNumber}
+use Rattle.dm_asm.specs.declared.labels.Place.{Place}
+use Rattle.dm_asm.specs.Assembled.{assembled, places_of}
+use Rattle.dm_asm.specs.Places.{line_size}
 use Rattle.dm_reading.specs.Lines.{source_lines}
 use Rattle.dm_onekernel.specs.Boot.{slots_of}
 use Rattle.dm_boot.specs.declared.rules.BootRule.{BootRule}
@@ -15,10 +19,14 @@ use Rattle.dm_boot.specs.Tables.{count, first_failing, text_at}
 use Rattle.dm_boot.specs.Text.{is_boot_name, is_server_name}
 use Rattle.dm_explain.specs.declared.told.links.LinkRule.{LinkRule}
 use Rattle.dm_explain.specs.declared.told.links.LinkRule.TheVariants as link
-use Rattle.dm_explain.specs.BadSources.{refused_told, source_of}
+use Rattle.dm_explain.specs.declared.source.Last.{Last}
+use Rattle.dm_explain.specs.declared.source.Last.TheVariants as last
+use Rattle.dm_explain.specs.BadSources.{Source, last_of, refused_told, source_of}
 use Rattle.dm_explain.specs.Faults.{integer_at, key_fault, number_fault}
 use Rattle.dm_explain.specs.LineAt.{line_at}
 use Rattle.dm_explain.specs.Parts.{integer_text, quoted}
+use Rattle.dm_explain.specs.TextFaults.{line_why}
+use Rattle.dm_explain.specs.TextPlace.{line_before}
 use Rattle.dm_explain.specs.Wanted.{channel_limits, control_wishes, image_limits, image_wishes, link_limits, link_wishes, machine_limits, machine_wishes, process_wishes, top_limits, top_wishes}
 
 abbrev pub name_at : Data → List ℕ
@@ -73,6 +81,49 @@ text_told t text (Ok bytes) = []
 text_told t text (Err refused) =
     line_told t refused.0 refused.1 (line_at refused.0 (source_lines text))
 
+-- how a rule is named
+abbrev pub rule_title : BootRule → List ℕ
+rule_title rule = concat (codes "rule " ∷ decimal (rule_number rule) ∷ codes ": " ∷ [])
+
+-- what a number is, behind a line in which none stands where one must
+abbrev pub number_note : Last → List ℕ
+number_note last.Label = []
+number_note last.Nothing = []
+number_note (last.Number most) = codes "    a number has digits alone, or 0x and hexadecimal digits\n"
+number_note (last.Value most) = codes "    a number has digits alone, or 0x and hexadecimal digits\n"
+number_note last.Bytes = codes "    a number has digits alone, or 0x and hexadecimal digits\n"
+
+abbrev pub note_told : Why → Option Source → List ℕ
+note_told BadNumber s = number_note (last_of s)
+note_told _ s = []
+
+-- where the line stands in the file, if its text stands there as it is
+abbrev pub place_told : Option ℕ → ℕ → List ℕ
+place_told None number = []
+place_told (Some before) number = concat (codes "    line " ∷ decimal (before + number) ∷ codes " of the file\n" ∷ [])
+
+-- a line that is refused; the first was said before
+abbrev pub again_told : Data → ℕ → ℕ → Why → List ℕ → List ℕ
+again_told t first number why line = if nat_lt first number then rule_title ImageText ++ line_told t number why line ++ codes "\n" else []
+
+unfoldable pub refusal_told : Data → Option ℕ → ℕ → ℕ → Why → List ℕ → List ℕ
+refusal_told t before first number why line = again_told t first number why line ++ note_told why (source_of line) ++ place_told before number
+
+abbrev pub fault_told : Data → Option ℕ → ℕ → ℕ → List ℕ → Option Why → List ℕ
+fault_told t before first number line None = []
+fault_told t before first number line (Some why) = refusal_told t before first number why line
+
+-- each line that is refused, from a line on with its number and address
+unfoldable pub later_lines : Data → Option ℕ → ℕ → (List ℕ → Option Place) → ℕ → ℕ → List (List ℕ) → List ℕ
+later_lines t before first places number at [] = []
+later_lines t before first places number at (l ∷ ls) =
+    fault_told t before first number l (line_why places number at l) ++ later_lines t before first places (number + 1) (at + line_size l) ls
+
+-- what is said behind the first line of an image's text that is refused, whose text stands in a file
+abbrev pub program_told : List ℕ → Data → List ℕ → Result (List ℕ) (ℕ × Why) → List ℕ
+program_told file t text (Ok bytes) = []
+program_told file t text (Err refused) = later_lines t (line_before text 1 file) refused.0 (places_of text) 1 0 (source_lines text)
+
 abbrev pub bytes_told : Data → Result (List ℕ) (ℕ × Why) → List ℕ
 bytes_told t (Ok bytes) =
     titled (codes "image") t ++ concat (decimal (length bytes) ∷ codes " bytes, and 256 times blocks = " ∷ integer_text (integer_at (codes "blocks") t) ∷ codes " have room" ∷ [])
@@ -101,8 +152,13 @@ limits_told d l =
     if is_server_name (text_at (codes "to") l) then number_fault channel_limits (concat (codes "a link to a server has no code, base, len, read or write" ∷ [])) l
     else number_fault link_limits (area_told d l) l
 
+-- the keys of a link, which may control if it has that key
+abbrev pub table_keys_told : Data → Option Data → List ℕ
+table_keys_told l None = key_fault link_wishes [] l
+table_keys_told l (Some d) = key_fault control_wishes [] l
+
 abbrev pub link_keys_told : Data → List ℕ
-link_keys_told l = if is_control l then key_fault control_wishes [] l else key_fault link_wishes [] l
+link_keys_told l = if is_some (as_table l) then table_keys_told l (get (codes "control") l) else codes "it must be a table"
 
 abbrev pub link_rule_told : LinkRule → Data → Data → List ℕ
 link_rule_told link.Keys d l = link_keys_told l
@@ -169,6 +225,11 @@ rule_told LinkCount i d = of_element (get_item i (process_tables d)) (λ t. proc
 rule_told LinkTarget i d = of_element (get_item i (process_tables d)) (λ t. process_rule_told LinkTarget d i t)
 rule_told LinkLimits i d = of_element (get_item i (process_tables d)) (λ t. process_rule_told LinkLimits d i t)
 
--- the whole line
-abbrev pub broken_told : BootRule → ℕ → Data → List ℕ
-broken_told rule i d = concat (codes "rule " ∷ decimal (rule_number rule) ∷ codes ": " ∷ []) ++ rule_told rule i d ++ codes "\n"
+-- what else is said of it, in lines behind that
+abbrev pub behind_told : List ℕ → BootRule → ℕ → Data → List ℕ
+behind_told file ImageText i d = of_element (get_item i (image_tables d)) (λ t. program_told file t (text_at (codes "text") t) (assembled (text_at (codes "text") t)))
+behind_told file _ i d = []
+
+-- all that is said of it, of the document of a file
+abbrev pub broken_told : List ℕ → BootRule → ℕ → Data → List ℕ
+broken_told file rule i d = rule_title rule ++ rule_told rule i d ++ codes "\n" ++ behind_told file rule i d

@@ -86,7 +86,7 @@ fn explain_top(alloc: Global, bytes: &[u8], top: &Value) -> Result<BootTold, NoM
             Ok(BootTold::System { boot, text })
         }
         Err(BootError::Refused { rule, place }) => {
-            let text = broken_text(alloc, top, rule, place)?;
+            let text = broken_text(alloc, bytes, top, rule, place)?;
             Ok(BootTold::Refused { rule, place, text })
         }
         Err(BootError::NoMemory(no)) => Err(no),
@@ -104,11 +104,17 @@ fn system_text(alloc: Global, boot: &Boot, top: &Value) -> Result<Vec<u8>, NoMem
 }
 
 /// What is said of a rule that the element at a place breaks.
-fn broken_text(alloc: Global, top: &Value, rule: BootRule, place: u64) -> Result<Vec<u8>, NoMemory>
-    ensures { IfOk result (λ text. text.items ≡ broken_told rule place (view top.now)) }
+fn broken_text(
+    alloc: Global,
+    bytes: &[u8],
+    top: &Value,
+    rule: BootRule,
+    place: u64,
+) -> Result<Vec<u8>, NoMemory>
+    ensures { IfOk result (λ text. text.items ≡ broken_told bytes.now rule place (view top.now)) }
 {
     let mut text = Vec::new(alloc);
-    put_broken(alloc, &mut text, top, rule, place)?;
+    put_broken(alloc, &mut text, bytes, top, rule, place)?;
     Ok(text)
 }
 

@@ -1,10 +1,12 @@
 //! What is wrong with the keys and the numbers of a table.
-ghost use Rattle.std.specs.Prelude.{◌≡◌, ◌++◌, OnOk, map};
-ghost use Rattle.std.specs.List.{concat};
+ghost use Rattle.std.specs.Prelude.{◌≡◌, ◌++◌, OnOk, map, not, option_copied, string_bytes};
+ghost use Rattle.std.specs.BTreeMap.{keys};
+ghost use Rattle.std.specs.List.{concat, find, list_any};
+ghost use Rattle.std.specs.Str.{bytes_eq};
 ghost use Rattle.toml.specs.Data.{get};
-ghost use Rattle.toml.specs.View.{view};
-ghost use Rattle.dm_boot.specs.Tables.{has_only};
-ghost use Rattle.dm_explain.specs.Faults.{absence_told, integer_at, is_met, is_sort, is_within, key_fault, keys_text, limit_told, number_fault, wish_fault, wish_told};
+ghost use Rattle.toml.specs.View.{table_view, view};
+ghost use Rattle.dm_boot.specs.Tables.{has_only, is_known};
+ghost use Rattle.dm_explain.specs.Faults.{absence_told, first_unknown, integer_at, is_met, is_sort, is_within, key_fault, keys_text, limit_told, number_fault, other_keys_told, unknown_key, unknown_told, wish_fault, wish_told};
 ghost use Rattle.dm_explain.specs.Parts.{part_text};
 ghost use Rattle.dm_explain.specs.Wanted.{limit_of, wish_of};
 
@@ -12,7 +14,7 @@ use crate::part::{Part, put, put_parts};
 use crate::wanted::{Key, Range, Sort};
 use dm_boot::tables::{has_only, number_at};
 use dm_memory::NoMemory;
-use toml::Value;
+use toml::{Table, Value};
 
 /// Writes what is wrong with the keys of a table, which may have these, or something else.
 #[tactic(auto, unfolding(crate::specs::Faults::key_fault), using(crate::proofs::Pieces::join_lemmas))]
@@ -29,9 +31,76 @@ pub fn put_key_fault(
     if has_only(table, names) {
         put_wish_fault(into, table, keys, other)
     } else {
-        put(into, "its keys may be")?;
-        put_keys(into, keys)
+        put_other_keys(into, table, keys, names)
     }
+}
+
+/// Writes which keys a table may have, and one that it has beside them.
+#[tactic(auto, using(crate::proofs::Pieces::join_lemmas))]
+fn put_other_keys(
+    into: &mut Vec<u8>,
+    table: &Value,
+    keys: &[Key],
+    names: &[&str],
+) -> Result<(), NoMemory>
+    ensures { OnOk result (into.new.items ≡ into.old.items ++ other_keys_told (map wish_of keys.now) (map (λ n. n.now) names.now) (view table.now)) }
+{
+    put(into, "its keys may be")?;
+    put_keys(into, keys)?;
+    put_unknown(into, unknown_key(table, names))
+}
+
+/// Writes a key that is none of those that a table may have.
+fn put_unknown(into: &mut Vec<u8>, key: Option<&str>) -> Result<(), NoMemory>
+    ensures { OnOk result (into.new.items ≡ into.old.items ++ unknown_told (option_copied key.entry)) }
+{
+    match key {
+        Some(key) => put_parts(into, &[Part::Text(", not "), Part::Quoted(key)]),
+        None => Ok(()),
+    }
+}
+
+/// The first key of a table that is none of these.
+fn unknown_key<'a>(value: &'a Value, names: &[&str]) -> Option<&'a str>
+    ensures { option_copied result ≡ unknown_key (map (λ n. n.now) names.now) (view value.now) }
+{
+    match value {
+        Value::Table(table) => first_unknown(table, names),
+        _ => None,
+    }
+}
+
+/// The first key of a table that is none of these.
+#[tactic(auto, using(crate::proofs::Unknown::unknown_lemmas))]
+fn first_unknown<'a>(table: &'a Table, names: &[&str]) -> Option<&'a str>
+    ensures { option_copied result ≡ first_unknown (map (λ n. n.now) names.now) (table_view table.now) }
+{
+    match other_key(table, names) {
+        Some(key) => Some(key.as_str()),
+        None => None,
+    }
+}
+
+/// The same, as the table has it.
+fn other_key<'a>(table: &'a Table, names: &[&str]) -> Option<&'a String>
+    ensures { option_copied result ≡ find (λ k. not (is_known (map (λ n. n.now) names.now) (string_bytes k))) (keys table.now) }
+{
+    table.keys().find(|key| !is_known(names, key.as_str()))
+}
+
+/// Whether a key is among these.
+#[tactic(auto, using(dm_boot::proofs::Keys::keys_lemmas))]
+fn is_known(names: &[&str], key: &str) -> bool
+    ensures { result ≡ is_known (map (λ n. n.now) names.now) key.now }
+{
+    names_any(names, key)
+}
+
+/// Whether one of these names is a key.
+fn names_any(names: &[&str], key: &str) -> bool
+    ensures { result ≡ list_any (λ k. bytes_eq k.now key.now) names.now }
+{
+    names.iter().any(|name| *name == key)
 }
 
 /// Writes the first wish that isn't met, or something else.

@@ -5,6 +5,7 @@ pub mod explain;
 mod faults;
 mod line;
 mod part;
+mod program;
 mod schedule;
 mod source;
 mod system;

@@ -4,7 +4,7 @@ ghost use Rattle.std.specs.Fmt.{decimal};
 ghost use Rattle.std.specs.List.{concat};
 ghost use Rattle.dm_reading.specs.Words.{words};
 ghost use Rattle.dm_explain.specs.BadOperands.{bad_of, count_words_told, operand_count_told, operand_of, operand_told, range_words};
-ghost use Rattle.dm_explain.specs.Schedules.{count_told, directives_told, fault_told, is_of, line_told, missing_told, outside_told, range_told, said};
+ghost use Rattle.dm_explain.specs.Schedules.{count_told, directives_told, fault_told, is_of, line_told, missing_told, number_note, outside_told, range_told, said};
 
 use crate::line::schedule_line;
 use crate::part::{Part, put, put_parts};
@@ -97,7 +97,21 @@ pub fn put_line(
         ],
     )?;
     put_fault(into, machines, fault, schedule_line(bytes, line))?;
-    put(into, "\n")
+    put(into, "\n")?;
+    put(into, number_note(fault))
+}
+
+/// What a number is, behind a line in which none stands where one must.
+fn number_note(fault: LineFault) -> &'static str
+    ensures { result.now ≡ number_note fault }
+{
+    match fault {
+        LineFault::NotANumber => "    a number has 1 to 10 digits alone\n",
+        LineFault::UnknownWord
+        | LineFault::WrongCount
+        | LineFault::OutOfRange
+        | LineFault::SameMachine => "",
+    }
 }
 
 /// Writes what is wrong with a line.

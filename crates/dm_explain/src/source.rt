@@ -105,7 +105,7 @@ fn word_of(op: Opcode) -> &'static [u8]
 }
 
 /// The instruction that a word names.
-fn opcode_named(word: &[u8]) -> Option<Opcode>
+pub fn opcode_named(word: &[u8]) -> Option<Opcode>
     ensures { result ≡ find (λ op. bytes_eq word.now (opcode_word op)) opcodes }
 {
     OPCODES.iter().copied().find(|op| word == word_of(*op))
@@ -142,7 +142,7 @@ fn takes_of(op: Opcode) -> Takes
 
 /// What the instruction or directive takes that a word names.
 #[tactic(auto, unfolding(crate::specs::BadSources::takes_named, dm_asm::specs::Forms::form_of))]
-fn takes_named(word: &[u8]) -> Option<Takes>
+pub fn takes_named(word: &[u8]) -> Option<Takes>
     ensures { result ≡ takes_named word.now }
 {
     if word == b".word".as_slice() {
@@ -171,7 +171,7 @@ fn has_name_parts(word: &[u8]) -> bool
 }
 
 /// Whether a word is a label's name.
-fn is_label(word: &[u8]) -> bool
+pub fn is_label(word: &[u8]) -> bool
     ensures { result ≡ is_label_name word.now }
 {
     if word.is_empty() || word.len() > 16 || word[0].is_ascii_digit() {
@@ -207,7 +207,7 @@ fn comment_start(line: &[u8]) -> Option<usize>
 }
 
 /// A line up to its comment.
-fn uncommented(line: &[u8]) -> &[u8]
+pub fn uncommented(line: &[u8]) -> &[u8]
     ensures same { result.now ≡ without_comment line.now }
 {
     match comment_start(line) {
@@ -244,7 +244,7 @@ pub fn statement_of(line: &[u8]) -> Option<Statement<'_>>
 }
 
 /// Whether a word names a register.
-fn is_register(word: &[u8]) -> bool
+pub fn is_register(word: &[u8]) -> bool
     ensures { result ≡ is_some (register_of word.now) }
 {
     match word {
@@ -256,7 +256,7 @@ fn is_register(word: &[u8]) -> bool
 
 /// The number that a word is, at most [`HUGE`].
 #[tactic(auto, unfolding(dm_asm::specs::Numbers::literal_value))]
-fn number(word: &[u8]) -> Option<u64>
+pub fn number(word: &[u8]) -> Option<u64>
     ensures { result ≡ option_map (λ n. min n (2 ^ 32)) (literal_value word.now) }
 {
     if word.len() > 2 && word[0] == b'0' && word[1] == b'x' {

@@ -1,5 +1,5 @@
 //! What is said of machines and of images.
-ghost use Rattle.std.specs.Prelude.{◌≡◌, ◌++◌, Err, Ok, OnOk, codes};
+ghost use Rattle.std.specs.Prelude.{◌≡◌, ◌++◌, Ok, OnOk, codes};
 ghost use Rattle.toml.specs.View.{view};
 ghost use Rattle.dm_asm.specs.Assembled.{assembled};
 ghost use Rattle.dm_boot.specs.Tables.{text_at};
@@ -9,9 +9,9 @@ use crate::faults::{integer_at, put_key_fault, put_number_fault};
 use crate::line::text_line;
 use crate::part::{Part, put_parts};
 use crate::told::elements::{put_name, put_numbered, put_titled};
-use crate::told::refused::put_refused;
+use crate::told::programs::put_line;
 use crate::wanted::{image_keys, image_ranges, machine_keys, machine_ranges};
-use dm_asm::{AssembleError, Image, Why, assemble};
+use dm_asm::{AssembleError, Image, assemble};
 use dm_boot::BootRule;
 use dm_boot::names::is_name;
 use dm_boot::tables::text_at;
@@ -89,33 +89,11 @@ fn put_text(alloc: Global, into: &mut Vec<u8>, image: &Value) -> Result<(), NoMe
     let text = text_at(image, "text");
     match assemble(alloc, text) {
         Ok(_) => Ok(()),
-        Err(AssembleError::Fault { line, why }) => put_line(into, image, text, line, why),
+        Err(AssembleError::Fault { line, why }) => {
+            put_line(into, image, line, why, text_line(text.as_bytes(), line))
+        }
         Err(AssembleError::NoMemory(no)) => Err(no),
     }
-}
-
-/// Writes that a line of an image's text is refused.
-#[tactic(auto, using(crate::proofs::Pieces::join_lemmas))]
-fn put_line<'a>(
-    into: &mut Vec<u8>,
-    image: &'a Value,
-    text: &'a str,
-    line: usize,
-    why: Why,
-) -> Result<(), NoMemory>
-    ensures { OnOk result (into.new.items ≡ into.old.items ++ text_told (view image.now) text.now (Err (line, why))) }
-{
-    put_parts(
-        into,
-        &[
-            Part::Text("image "),
-            Part::Quoted(text_at(image, "name")),
-            Part::Text(", line "),
-            Part::Count(line as u64),
-            Part::Text(": "),
-        ],
-    )?;
-    put_refused(into, why, text_line(text.as_bytes(), line))
 }
 
 /// Writes how many bytes an image's text makes, and for how many there is room.

@@ -1,11 +1,12 @@
 //! What is said of the links of processes, and of where they lead.
-ghost use Rattle.std.specs.Prelude.{◌≡◌, ◌++◌, OnOk};
+ghost use Rattle.std.specs.Prelude.{◌≡◌, ◌++◌, OnOk, codes};
+ghost use Rattle.toml.specs.Data.{get};
 ghost use Rattle.toml.specs.View.{items_view, view};
 ghost use Rattle.dm_boot.specs.Tables.{first_failing};
-ghost use Rattle.dm_explain.specs.Told.{at_link, bad_link, limits_told, link_keeps, link_keys_told, link_rule_told, target_told};
+ghost use Rattle.dm_explain.specs.Told.{at_link, bad_link, limits_told, link_keeps, link_keys_told, link_rule_told, table_keys_told, target_told};
 
 use crate::faults::{put_key_fault, put_number_fault};
-use crate::part::{Part, put_parts};
+use crate::part::{Part, put, put_parts};
 use crate::told::elements::{element, put_numbered};
 use crate::wanted::{channel_ranges, control_keys, link_keys, link_ranges};
 use dm_boot::document::Document;
@@ -101,10 +102,20 @@ fn put_link(
 fn put_link_keys(into: &mut Vec<u8>, link: &Value) -> Result<(), NoMemory>
     ensures { OnOk result (into.new.items ≡ into.old.items ++ link_keys_told (view link.now)) }
 {
-    if is_control(link) {
-        put_key_fault(into, link, &control_keys(), &["control"], "")
+    if link.is_table() {
+        put_table_keys(into, link)
     } else {
-        put_key_fault(
+        put(into, "it must be a table")
+    }
+}
+
+/// Writes what is wrong with the keys of a table that is to be a link.
+fn put_table_keys(into: &mut Vec<u8>, link: &Value) -> Result<(), NoMemory>
+    ensures { OnOk result (into.new.items ≡ into.old.items ++ table_keys_told (view link.now) (get (codes "control") (view link.now))) }
+{
+    match link.get("control") {
+        Some(_) => put_key_fault(into, link, &control_keys(), &["control"], ""),
+        None => put_key_fault(
             into,
             link,
             &link_keys(),
@@ -112,7 +123,7 @@ fn put_link_keys(into: &mut Vec<u8>, link: &Value) -> Result<(), NoMemory>
                 "to", "code", "channel", "base", "len", "reply", "read", "write",
             ],
             "",
-        )
+        ),
     }
 }
 

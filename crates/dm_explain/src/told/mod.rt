@@ -1,16 +1,17 @@
 //! What is said of a boot file that breaks a rule.
 ghost use Rattle.std.specs.Prelude.{◌≡◌, ◌++◌, OnOk};
 ghost use Rattle.toml.specs.View.{view};
-ghost use Rattle.dm_explain.specs.Told.{broken_told, rule_told};
+ghost use Rattle.dm_explain.specs.Told.{behind_told, broken_told, rule_told};
 
 mod elements;
 mod images;
 mod keys;
 mod links;
 mod processes;
+mod programs;
 mod refused;
 
-use crate::part::{Part, put, put_parts};
+use crate::part::put;
 use dm_boot::BootRule;
 use dm_boot::document::Document;
 use dm_memory::NoMemory;
@@ -18,43 +19,61 @@ use elements::element;
 use images::{put_image, put_machine};
 use keys::put_top;
 use processes::put_process;
+use programs::{put_program, put_title};
 use std::alloc::Global;
 use toml::Value;
 
-/// Writes what is said of a rule that the element at a place breaks, with the rule's number, as a line.
+/// Writes what is said of a rule that the element at a place breaks, with the rule's number, in lines.
 pub fn put_broken(
     alloc: Global,
     into: &mut Vec<u8>,
+    file: &[u8],
     top: &Value,
     rule: BootRule,
     place: u64,
 ) -> Result<(), NoMemory>
-    ensures { OnOk result (into.new.items ≡ into.old.items ++ broken_told rule place (view top.now)) }
+    ensures { OnOk result (into.new.items ≡ into.old.items ++ broken_told file.now rule place (view top.now)) }
 {
     let document = Document::new(alloc, top)?;
-    put_told(alloc, into, &document, rule, place)
+    put_told(alloc, into, file, &document, rule, place)
 }
 
 /// Writes the same of a document.
+#[tactic(auto, using(crate::proofs::Pieces::join_lemmas))]
 fn put_told(
     alloc: Global,
     into: &mut Vec<u8>,
+    file: &[u8],
     document: &Document<'_>,
     rule: BootRule,
     place: u64,
 ) -> Result<(), NoMemory>
-    ensures { OnOk result (into.new.items ≡ into.old.items ++ broken_told rule place (view document.now.top.now)) }
+    ensures { OnOk result (into.new.items ≡ into.old.items ++ broken_told file.now rule place (view document.now.top.now)) }
 {
-    put_parts(
-        into,
-        &[
-            Part::Text("rule "),
-            Part::Count(u64::from(rule.number())),
-            Part::Text(": "),
-        ],
-    )?;
+    put_title(into, rule)?;
     put_rule(alloc, into, document, rule, place)?;
-    put(into, "\n")
+    put(into, "\n")?;
+    put_behind(alloc, into, file, document, rule, place)
+}
+
+/// Writes what else is said of it, in lines behind that.
+fn put_behind(
+    alloc: Global,
+    into: &mut Vec<u8>,
+    file: &[u8],
+    document: &Document<'_>,
+    rule: BootRule,
+    place: u64,
+) -> Result<(), NoMemory>
+    ensures { OnOk result (into.new.items ≡ into.old.items ++ behind_told file.now rule place (view document.now.top.now)) }
+{
+    match rule {
+        BootRule::ImageText => match element(document.top, "image", place) {
+            Some(image) => put_program(alloc, into, file, image),
+            None => Ok(()),
+        },
+        _ => Ok(()),
+    }
 }
 
 /// Writes what is said of a rule that the element at a place breaks.

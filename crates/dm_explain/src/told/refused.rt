@@ -1,6 +1,5 @@
 //! What is said of a line of an image's text that is refused.
-ghost use Rattle.std.specs.Prelude.{◌≡◌, ◌++◌, OnOk, length, option_copied, option_map};
-ghost use Rattle.dm_reading.specs.Words.{source_words};
+ghost use Rattle.std.specs.Prelude.{◌≡◌, ◌++◌, OnOk, option_copied, option_map};
 ghost use Rattle.dm_explain.specs.BadSources.{bad_word_of, bad_word_told, bytes_due, detail, detail_told, due_told, known_told, label_told, last_of, last_range, missing_value_words, most_told, refused_told, seen, source_of, unknown_told, which_told, why_words};
 
 use crate::part::{Part, put, put_parts};

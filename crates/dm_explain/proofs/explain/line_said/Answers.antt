@@ -1,4 +1,4 @@
-use Rattle.dm_explain.proofs.Names.{◌≤◌, length, arith}
+use Rattle.dm_explain.proofs.Names.{arith}
 use Rattle.dm_explain.proofs.explain.line_said.Goals as goal
 
 pub returns-in-Some : goal.returns-in-Some

@@ -1,4 +1,4 @@
-use Rattle.dm_explain.proofs.Names.{◌≡◌, ◌++◌, List, ℕ, false, true, map, rules, sym, subst, ◌∙◌, OnOk, view, is_met, wish_fault, wish_told, Wish, wish_of}
+use Rattle.dm_explain.proofs.Names.{◌≡◌, ◌++◌, List, ℕ, false, true, rules, sym, subst, ◌∙◌, OnOk, view, is_met, wish_fault, wish_told, Wish, wish_of}
 use Rattle.dm_explain.proofs.Loops.{bad-here-copied, bad-more-copied}
 use Rattle.dm_explain.proofs.faults.put_wish_fault.Goals as goal
 

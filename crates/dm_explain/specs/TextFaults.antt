@@ -1,0 +1,88 @@
+-- Which lines of an image's text are refused, and why.
+use Rattle.std.specs.Prelude.{ℕ, ◌+◌, ◌==◌, ◌&&◌, nat_le, nat_lt, Bool, if◌then◌else◌, List, [], ◌∷◌, length, Option, None, Some, Result, Ok, Err, ok_or, option_map}
+use Rattle.std.specs.BTreeMap.{get_by}
+use Rattle.std.specs.Cmp.Lexicographic.{slice_cmp}
+use Rattle.std.specs.Ordering.{nat_cmp}
+use Rattle.dm_reading.specs.Words.{source_words}
+use Rattle.dm_asm.specs.declared.labels.Place.{Place}
+use Rattle.dm_asm.specs.declared.refusals.Why.{Why}
+use Rattle.dm_asm.specs.declared.refusals.Why.TheVariants.{UnknownWord, BadRegister, LabelTwice, OperandCount, TooLong}
+use Rattle.dm_asm.specs.Lines.{without_comment}
+use Rattle.dm_asm.specs.Numbers.{literal_value, register_of}
+use Rattle.dm_asm.specs.Operands.{distance_of, operand_value, wanted_number}
+use Rattle.dm_asm.specs.Places.{behind_label, label_of_words, line_size}
+use Rattle.dm_asm.specs.Statements.{is_twice}
+use Rattle.dm_explain.specs.declared.program.labels.Labels.{Labels}
+use Rattle.dm_explain.specs.declared.program.labels.Spot.{Spot}
+use Rattle.dm_explain.specs.declared.source.Last.{Last}
+use Rattle.dm_explain.specs.declared.source.Last.TheVariants as last
+use Rattle.dm_explain.specs.declared.source.Takes.{Takes}
+use Rattle.dm_explain.specs.BadSources.{takes_named}
+
+-- where a table has a label
+abbrev pub place_of : Spot → Place
+place_of s = record { line = s.line; address = s.address }
+
+unfoldable pub place_in : Labels → List ℕ → Option Place
+place_in labels name = option_map place_of (get_by (λ k. slice_cmp nat_cmp name k.now) labels.map)
+
+-- why there is no value
+abbrev pub why_of : {A : Type 0} → Result A Why → Option Why
+why_of (Ok x) = None
+why_of (Err why) = Some why
+
+-- the first of two reasons, if there is one
+abbrev pub or_why : Option Why → Option Why → Option Why
+or_why None other = other
+or_why (Some why) other = Some why
+
+-- why a word is refused behind the registers of an instruction or directive at an address
+abbrev pub last_why : (List ℕ → Option Place) → ℕ → Last → List ℕ → Option Why
+last_why places at last.Nothing w = None
+last_why places at (last.Number most) w = why_of (wanted_number most (literal_value w))
+last_why places at (last.Value most) w = why_of (operand_value places most w)
+last_why places at last.Label w = why_of (distance_of places at w)
+last_why places at last.Bytes w = why_of (wanted_number 255 (literal_value w))
+
+-- why the operand at a place is
+unfoldable pub operand_why : (List ℕ → Option Place) → ℕ → Takes → ℕ → List ℕ → Option Why
+operand_why places at t i w = if nat_le i t.registers then why_of (ok_or (register_of w) BadRegister) else last_why places at t.last w
+
+-- and the first of the operands from a place on that is
+unfoldable pub operands_why : (List ℕ → Option Place) → ℕ → Takes → ℕ → List (List ℕ) → Option Why
+operands_why places at t i [] = None
+operands_why places at t i (w ∷ ws) = or_why (operand_why places at t i w) (operands_why places at t (i + 1) ws)
+
+-- so many operands may stand behind so many registers and what stands behind these
+abbrev pub is_due : ℕ → Last → ℕ → Bool
+is_due n last.Nothing there = there == n
+is_due n last.Bytes there = nat_lt 0 there
+is_due n (last.Number most) there = there == n + 1
+is_due n (last.Value most) there = there == n + 1
+is_due n last.Label there = there == n + 1
+
+-- why an instruction or directive is refused with its operands; the label before it may be defined before
+abbrev pub takes_why : (List ℕ → Option Place) → ℕ → Bool → Takes → List (List ℕ) → Option Why
+takes_why places at twice t ws =
+    if twice then Some LabelTwice else (if is_due t.registers t.last (length ws) then operands_why places at t 1 ws else Some OperandCount)
+
+abbrev pub named_why : (List ℕ → Option Place) → ℕ → Bool → Option Takes → List (List ℕ) → Option Why
+named_why places at twice None ws = Some UnknownWord
+named_why places at twice (Some t) ws = takes_why places at twice t ws
+
+-- why what stands behind a label is
+unfoldable pub statement_why : (List ℕ → Option Place) → ℕ → Bool → List (List ℕ) → Option Why
+statement_why places at twice [] = if twice then Some LabelTwice else None
+statement_why places at twice (w ∷ ws) = named_why places at twice (takes_named w) ws
+
+-- why the words of a line are, by its number and address
+abbrev pub words_why : (List ℕ → Option Place) → ℕ → ℕ → List (List ℕ) → Option Why
+words_why places number at ws = statement_why places at (is_twice places number (label_of_words ws)) (behind_label ws)
+
+-- the image has more bytes than it may have with these, and hadn't before
+abbrev pub long_why : ℕ → ℕ → Option Why
+long_why at size = if nat_le at 65536 && nat_lt 65536 (at + size) then Some TooLong else None
+
+-- why a line is
+unfoldable pub line_why : (List ℕ → Option Place) → ℕ → ℕ → List ℕ → Option Why
+line_why places number at line = or_why (words_why places number at (source_words (without_comment line))) (long_why at (line_size line))
