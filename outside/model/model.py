@@ -3,7 +3,7 @@
 
     python3 outside/model/model.py run --boot FILE --schedule FILE
     python3 outside/model/model.py check --boot FILE --trace FILE
-    python3 outside/model/model.py explain --boot FILE --trace FILE
+    python3 outside/model/model.py explain --boot FILE [--schedule FILE | --trace FILE]
     python3 outside/model/model.py drill --seed N --machines M --lines L [--trace]
     python3 outside/model/model.py drill --boot FILE --seed N --lines L [--trace | --schedule]
     python3 outside/model/model.py count --boot FILE --schedule FILE
@@ -23,6 +23,7 @@ import schedule as schedule_file
 from counting import Counts, quiet_line
 from drill import directives_of, drawn_boot, drill
 from ends import end_lines
+from explaining import explain, schedule_told
 from looking import Enough, look
 from onekernel import Refused as LabelsRefused
 from onekernel import check_labels
@@ -80,11 +81,19 @@ def bytes_of(name, most, kind):
 
 
 def boot_of(options):
-    return boot_file.read_boot(bytes_of(options["--boot"], LONGEST_BOOT, "boot"))
+    data = bytes_of(options["--boot"], LONGEST_BOOT, "boot")
+    try:
+        return boot_file.read_boot(data)
+    except boot_file.Refused as refused:
+        raise Stop(6, str(refused), explain(data)[0][:1]) from None
 
 
 def directives_in(options, boot):
-    return schedule_file.read_schedule(bytes_of(options["--schedule"], LONGEST, "schedule"), len(boot.machines))
+    data = bytes_of(options["--schedule"], LONGEST, "schedule")
+    try:
+        return schedule_file.read_schedule(data, len(boot.machines))
+    except schedule_file.Refused as refused:
+        raise Stop(7, str(refused), schedule_told(data, boot)[:1]) from None
 
 
 def do_run(words, write):
@@ -108,11 +117,19 @@ def do_check(words, write):
 
 
 def do_explain(words, write):
-    """Of a trace alone: what the boot file says isn't the model's to say."""
-    options = options_of(words, ["--boot", "--trace"])
-    boot = boot_of(options)
+    given = {word.partition("=")[0] for word in words}
+    behind = [option for option in ("--schedule", "--trace") if option in given]
+    options = options_of(words, ["--boot", *behind[:1]])
+    data = bytes_of(options["--boot"], LONGEST_BOOT, "boot")
+    schedule = (lambda: bytes_of(options["--schedule"], LONGEST, "schedule")) if behind == ["--schedule"] else None
+    said, refused = explain(data, schedule)
+    if behind != ["--trace"] or refused is not None:
+        write(said)
+        if refused is not None:
+            raise refused
+        return
     try:
-        write([trace_check.check(boot, bytes_of(options["--trace"], LONGEST, "trace"))])
+        write([trace_check.check(boot_file.read_boot(data), bytes_of(options["--trace"], LONGEST, "trace"))])
     except trace_check.Refused as refused:
         write(refused.words)
         raise

@@ -15,4 +15,5 @@ pub mod OwnDrilling
 pub mod Looking
 pub mod Obeying
 pub mod Silent
+pub mod Saying
 pub mod Carrying

@@ -1,0 +1,122 @@
+-- What is said of a boot file or a schedule that is refused, and that nothing is said otherwise.
+use Rattle.dm_commands.proofs.Names.{◌≡◌, ℕ, List, [], length, refl, ap, sym, subst, ◌∙◌, Option, None, Some, Result, Ok, Err, Boot, BootRule, BootTold, LineFault, Accepted, Refused, Status, Done, Usage}
+use Rattle.dm_commands.proofs.Names.{ReadFault, NoMemory, TheNoMemory, WriteFault, BootRefused, ScheduleRefused, TooLong, Worn, TraceRefused, LabelsRefused, NoBoot, NoDirectives, SaysBoot, Request, Run, Check, CheckLabels, Chart, Explain, Judge, Count, Look, WordsError, status_of_no}
+use Rattle.dm_words.specs.Request.{Drill, OwnDrill}
+use Rattle.dm_words.specs.declared.words.WordsError.TheVariants as words_error
+use Rattle.dm_boot.specs.Boot.{boot_of}
+use Rattle.dm_schedule.specs.Schedule.{directives_of}
+use Rattle.dm_explain.specs.Explained.{ExplainsBoot, ExplainsSchedule, TellsRefused}
+use Rattle.dm_explain.specs.Schedules.{line_told}
+use Rattle.dm_explain.specs.declared.explain.BootTold.TheVariants as boot_told
+use Rattle.dm_explain.specs.declared.explain.ScheduleTold.{ScheduleTold}
+use Rattle.dm_explain.specs.declared.explain.ScheduleTold.TheVariants as schedule_told
+use Rattle.dm_commands.proofs.Outcomes.{Files}
+use Rattle.dm_commands.specs.Firsts.{FirstOfBoot, FirstOfFiles, FirstOfSchedule, SaysFirst, boot_text, schedule_text}
+
+-- the rule and the place of a refusal
+abbrev refusal_or : BootRule × ℕ → Result Boot (BootRule × ℕ) → BootRule × ℕ
+refusal_or other (Ok b) = other
+refusal_or other (Err refusal) = refusal
+
+-- what was said of bytes that are refused, is said of the refusal
+pub boot_said : (bytes : List ℕ) (rule : BootRule) (place : ℕ) (told : BootTold) → boot_of bytes ≡ Err (rule, place) → ExplainsBoot bytes told → TellsRefused bytes rule place (boot_text told)
+boot_said bytes rule place (boot_told.System b text) e h = let f : ◌≡◌ {A = Result Boot (BootRule × ℕ)} (Ok b) (Err (rule, place)) = sym h.says ∙ e in absurd cc
+boot_said bytes rule place (boot_told.Refused r p text) e h = subst (λ (x : BootRule × ℕ). TellsRefused bytes x.0 x.1 text.items) (ap (refusal_or (rule, place)) (sym h.refused ∙ e)) h
+
+pub schedule_said : (bytes : List ℕ) (machines line : ℕ) (fault : LineFault) (told : ScheduleTold) → directives_of bytes machines ≡ Refused line fault → ExplainsSchedule bytes machines told → schedule_text told ≡ line_told bytes machines line fault
+schedule_said bytes machines line fault (schedule_told.Directives ds text) e h = let f : Accepted ds.items ≡ Refused line fault = sym h.0 ∙ e in absurd cc
+schedule_said bytes machines line fault (schedule_told.Refused l x text) e h =
+    let f : Refused l x ≡ Refused line fault = sym h.0 ∙ e in
+    let at : l ≡ line = cc in
+    let same : x ≡ fault = cc in
+    h.1 ∙ ap (λ (k : ℕ). line_told bytes machines k x) at ∙ ap (λ (y : LineFault). line_told bytes machines line y) same
+
+-- the boot file is at fault
+pub boot_first : (files : Option Files) (boot schedule : List ℕ) (old new : ℕ) (s : Status) (said : List ℕ) → NoBoot files boot old new s → FirstOfBoot files boot s said → FirstOfFiles files boot schedule s said
+boot_first files boot schedule old new Done said none h = h
+boot_first files boot schedule old new Usage said none h = h
+boot_first files boot schedule old new (ReadFault i) said none h = h
+boot_first files boot schedule old new (NoMemory lack) said none h = h
+boot_first files boot schedule old new WriteFault said none h = h
+boot_first files boot schedule old new (BootRefused number place) said none h = h
+boot_first files boot schedule old new (ScheduleRefused line why) said none h = absurd none
+boot_first files boot schedule old new (TooLong i) said none h = h
+boot_first files boot schedule old new (Worn from to) said none h = h
+boot_first files boot schedule old new (TraceRefused line why) said none h = h
+boot_first files boot schedule old new (LabelsRefused line) said none h = h
+
+-- it says a system, and the schedule is at fault
+schedule_at : (files : Option Files) (boot schedule : List ℕ) (b : Boot) (old new : ℕ) (s : Status) (said : List ℕ) → SaysBoot files boot b → NoDirectives files schedule (length b.machines) old new s → FirstOfSchedule files schedule (length b.machines) s said → FirstOfFiles files boot schedule s said
+schedule_at files boot schedule b old new Done said says none h = h
+schedule_at files boot schedule b old new Usage said says none h = h
+schedule_at files boot schedule b old new (ReadFault i) said says none h = h
+schedule_at files boot schedule b old new (NoMemory lack) said says none h = h
+schedule_at files boot schedule b old new WriteFault said says none h = h
+schedule_at files boot schedule b old new (BootRefused number place) said says none h = absurd none
+schedule_at files boot schedule b old new (ScheduleRefused line why) said says none h = record { b = b; says = says; holds = h }
+schedule_at files boot schedule b old new (TooLong i) said says none h = h
+schedule_at files boot schedule b old new (Worn from to) said says none h = h
+schedule_at files boot schedule b old new (TraceRefused line why) said says none h = h
+schedule_at files boot schedule b old new (LabelsRefused line) said says none h = h
+
+pub schedule_first : (files between : Option Files) (boot schedule : List ℕ) (b : Boot) (machines old new : ℕ) (s : Status) (said : List ℕ) → SaysBoot files boot b → between ≡ files → machines ≡ length b.machines
+    → NoDirectives between schedule machines old new s → FirstOfSchedule between schedule machines s said → FirstOfFiles files boot schedule s said
+schedule_first files between boot schedule b machines old new s said says same count none h =
+    schedule_at files boot schedule b old new s said says
+    (subst (λ (n : ℕ). NoDirectives files schedule n old new s) count (subst (λ (f : Option Files). NoDirectives f schedule machines old new s) same none))
+    (subst (λ (n : ℕ). FirstOfSchedule files schedule n s said) count (subst (λ (f : Option Files). FirstOfSchedule f schedule machines s said) same h))
+
+-- nothing is said with a status of which something holds that holds of no refused file
+pub silent_boot : (Holds : Status → Type 0) (files : Option Files) (boot : List ℕ) (s : Status) (said : List ℕ) → ((number place : ℕ) → Holds (BootRefused number place) → ⊥) → Holds s → said ≡ [] → FirstOfBoot files boot s said
+silent_boot Holds files boot Done said no_boot h e = e
+silent_boot Holds files boot Usage said no_boot h e = e
+silent_boot Holds files boot (ReadFault i) said no_boot h e = e
+silent_boot Holds files boot (NoMemory lack) said no_boot h e = e
+silent_boot Holds files boot WriteFault said no_boot h e = e
+silent_boot Holds files boot (BootRefused number place) said no_boot h e = absurd (no_boot number place h)
+silent_boot Holds files boot (ScheduleRefused line why) said no_boot h e = e
+silent_boot Holds files boot (TooLong i) said no_boot h e = e
+silent_boot Holds files boot (Worn from to) said no_boot h e = e
+silent_boot Holds files boot (TraceRefused line why) said no_boot h e = e
+silent_boot Holds files boot (LabelsRefused line) said no_boot h e = e
+
+pub silent_files : (Holds : Status → Type 0) (files : Option Files) (boot schedule : List ℕ) (s : Status) (said : List ℕ) → ((number place : ℕ) → Holds (BootRefused number place) → ⊥) → ((line why : ℕ) → Holds (ScheduleRefused line why) → ⊥) → Holds s → said ≡ [] → FirstOfFiles files boot schedule s said
+silent_files Holds files boot schedule Done said no_boot no_schedule h e = e
+silent_files Holds files boot schedule Usage said no_boot no_schedule h e = e
+silent_files Holds files boot schedule (ReadFault i) said no_boot no_schedule h e = e
+silent_files Holds files boot schedule (NoMemory lack) said no_boot no_schedule h e = e
+silent_files Holds files boot schedule WriteFault said no_boot no_schedule h e = e
+silent_files Holds files boot schedule (BootRefused number place) said no_boot no_schedule h e = absurd (no_boot number place h)
+silent_files Holds files boot schedule (ScheduleRefused line why) said no_boot no_schedule h e = absurd (no_schedule line why h)
+silent_files Holds files boot schedule (TooLong i) said no_boot no_schedule h e = e
+silent_files Holds files boot schedule (Worn from to) said no_boot no_schedule h e = e
+silent_files Holds files boot schedule (TraceRefused line why) said no_boot no_schedule h e = e
+silent_files Holds files boot schedule (LabelsRefused line) said no_boot no_schedule h e = e
+
+pub silent_first : (Holds : Status → Type 0) (r : Option Request) (files : Option Files) (s : Status) (said : List ℕ) → ((number place : ℕ) → Holds (BootRefused number place) → ⊥) → ((line why : ℕ) → Holds (ScheduleRefused line why) → ⊥) → Holds s → said ≡ [] → SaysFirst r files s said
+silent_first Holds None files s said no_boot no_schedule h e = e
+silent_first Holds (Some (Run boot schedule)) files s said no_boot no_schedule h e = silent_files Holds files boot schedule s said no_boot no_schedule h e
+silent_first Holds (Some (Check boot trace)) files s said no_boot no_schedule h e = silent_boot Holds files boot s said no_boot h e
+silent_first Holds (Some (CheckLabels boot labels)) files s said no_boot no_schedule h e = silent_boot Holds files boot s said no_boot h e
+silent_first Holds (Some (Chart boot schedule)) files s said no_boot no_schedule h e = silent_files Holds files boot schedule s said no_boot no_schedule h e
+silent_first Holds (Some (Explain boot schedule)) files s said no_boot no_schedule h e = e
+silent_first Holds (Some (Judge boot trace)) files s said no_boot no_schedule h e = e
+silent_first Holds (Some (Count boot schedule)) files s said no_boot no_schedule h e = silent_files Holds files boot schedule s said no_boot no_schedule h e
+silent_first Holds (Some (Look boot schedule groups)) files s said no_boot no_schedule h e = silent_files Holds files boot schedule s said no_boot no_schedule h e
+silent_first Holds (Some (Drill d)) files s said no_boot no_schedule h e = e
+silent_first Holds (Some (OwnDrill boot d)) files s said no_boot no_schedule h e = silent_boot Holds files boot s said no_boot h e
+
+-- so it is where the words ask for nothing, or memory lacks
+no_boot_of : (reason : WordsError) (number place : ℕ) → BootRefused number place ≡ status_of_no reason → ⊥
+no_boot_of words_error.Usage number place e = cc
+no_boot_of (words_error.NoMemory lack) number place e = cc
+
+no_schedule_of : (reason : WordsError) (line fault : ℕ) → ScheduleRefused line fault ≡ status_of_no reason → ⊥
+no_schedule_of words_error.Usage line fault e = cc
+no_schedule_of (words_error.NoMemory lack) line fault e = cc
+
+pub silent_words : (r : Option Request) (files : Option Files) (reason : WordsError) (s : Status) (said : List ℕ) → s ≡ status_of_no reason → said ≡ [] → SaysFirst r files s said
+silent_words r files reason s said e none = silent_first (λ (x : Status). x ≡ status_of_no reason) r files s said (no_boot_of reason) (no_schedule_of reason) e none
+
+pub silent_lack : (r : Option Request) (files : Option Files) (lack : TheNoMemory) (said : List ℕ) → said ≡ [] → SaysFirst r files (NoMemory lack) said
+silent_lack r files lack said none = silent_first (λ (x : Status). x ≡ NoMemory lack) r files (NoMemory lack) said (λ number place e. cc) (λ line fault e. cc) refl none

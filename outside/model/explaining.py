@@ -1,0 +1,392 @@
+"""What is said of a boot file and of a schedule (docs/FORMATS.md, "Saying what is wrong")."""
+
+import boot as boot_file
+import schedule as schedule_file
+from assembler import BEGINS_A_LABEL, FORMS, LABEL, MOST_BYTES, NUMBER, REGISTER, Wrong, bytes_of, count_fits, parts_of, size_of, words_of
+from values import MANAGER, SWITCHBOARD
+
+A_NAME = " is no name, which has 1 to 16 of a to z, 0 to 9 and _"
+A_LABEL = " is no label, which has 1 to 16 of a to z, 0 to 9 and _, the first no digit"
+A_NUMBER = "    a number has digits alone, or 0x and hexadecimal digits"
+SOME_DIGITS = "    a number has 1 to 10 digits alone"
+SORTS = {int: "an integer", str: "a text", bool: "true or false", list: "an array of tables"}
+TOP = {"format": int, "numbers": int, "quantum": int, "machine": list, "image": list, "process": list}
+MACHINE = {"slots": int, "blocks": int}
+IMAGE = {"name": str, "blocks": int, "text": str}
+PROCESS = {"name": str, "image": str, "machine": int, "links": list}
+LINK = {"to": str, "code": int, "channel": int, "base": int, "len": int, "reply": bool, "read": bool, "write": bool}
+CONTROL = {"control": str}
+
+
+def shown(text):
+    """The bytes of a text of a file, each that isn't printed as a question mark."""
+    data = text if isinstance(text, bytes) else text.encode("utf-8")
+    return "".join(chr(byte) if 32 <= byte <= 126 else "?" for byte in data)
+
+
+def quoted(text):
+    return f'"{shown(text)}"'
+
+
+# The keys and numbers of tables
+
+
+def may_lack(keys, key):
+    """Whether a table with these keys may be without one of them."""
+    return keys is TOP or key == "links" or keys is LINK and key != "to"
+
+
+def keys_told(table, keys, other=""):
+    """What is wrong with the keys of a table, or something else."""
+    others = sorted((key for key in table if key not in keys), key=lambda key: key.encode("utf-8"))
+    if others:
+        return "its keys may be " + " ".join(keys) + f", not {quoted(others[0])}"
+    for key, sort in keys.items():
+        if key not in table:
+            if not may_lack(keys, key):
+                return f"{key} must be {SORTS[sort]}, and it is missing"
+        elif type(table[key]) is not sort:
+            return f"{key} must be {SORTS[sort]}"
+    return other
+
+
+def limit_told(table, limits):
+    """The first number outside its limits, if one is."""
+    for key, low, high in limits:
+        if key in table and not low <= table[key] <= high:
+            return f"{key} = {table[key]}, which must be {low} to {high}"
+    return None
+
+
+def count_told(count, what, low, high):
+    return f"{count} {what}, which must be {low} to {high}"
+
+
+# The rules of the boot file
+
+
+def rule_told(number, place, document, data):
+    """The lines of a rule that the document of a file breaks at a place."""
+    machines, images, processes = (document.get(key, []) for key in ("machine", "image", "process"))
+    if number == 11:
+        return text_told(images[place], data)
+    if number in (2, 3, 4, 7):
+        said = top_told(number, document)
+    elif number in (5, 6):
+        said = f"machine {place}: " + (keys_told(machines[place], MACHINE) if number == 5 else limit_told(machines[place], [("slots", 0, 64), ("blocks", 0, 4096)]))
+    elif number <= 12:
+        said = image_told(number, place, images[place])
+    else:
+        said = process_told(number, place, processes[place], document)
+    return [f"rule {number}: {said}"]
+
+
+def top_told(number, document):
+    if number == 2:
+        return keys_told(document, TOP, "machine, image and process must be arrays of tables")
+    if number == 3:
+        return limit_told(document, [("numbers", 1, 1_048_576), ("quantum", 1, 1_000), ("format", 1, 2)])
+    if number == 4:
+        return count_told(len(document.get("machine", [])), "machines", 1, 16)
+    return count_told(len(document.get("image", [])), "images", 0, 256)
+
+
+def image_told(number, place, image):
+    if number == 8:
+        return f"image {place}: " + keys_told(image, IMAGE)
+    if number == 9:
+        return f"image {place}: {quoted(image['name'])}" + (" is an earlier image's name" if boot_file.NAME.fullmatch(image["name"]) else A_NAME)
+    title = f"image {quoted(image['name'])}: "
+    if number == 10:
+        return title + limit_told(image, [("blocks", 1, 256)])
+    return title + f"{len(boot_file.code_of(image['text']))} bytes, and 256 times blocks = {image['blocks']} have room"
+
+
+def process_told(number, place, process, document):
+    links, machines = process.get("links", []), document.get("machine", [])
+    if number == 13:
+        bad = [k for k, link in enumerate(links if isinstance(links, list) else []) if not isinstance(link, dict) or not boot_file.is_link(link)]
+        said = f"link {bad[0]}: " + link_keys_told(links[bad[0]]) if bad else keys_told(process, PROCESS)
+        return f"process {place}: {said}"
+    if number == 14:
+        name = process["name"]
+        if not boot_file.NAME.fullmatch(name):
+            why = A_NAME
+        else:
+            why = " is a server's name" if name in boot_file.SERVERS else " is an earlier process's name"
+        return f"process {place}: {quoted(name)}{why}"
+    title = f"process {quoted(process['name'])}: "
+    if number == 15:
+        return title + f"machine = {process['machine']}, and the machines are {len(machines)}, from 0 on"
+    if number == 16:
+        return title + f"no image is named {quoted(process['image'])}"
+    if number == 17:
+        home = process["machine"]
+        room = machines[home]
+        return title + f"with those before it there is no room for it on machine {home}, which has slots = {room['slots']} and blocks = {room['blocks']}"
+    if number == 18:
+        return title + count_told(len(links), "links", 0, 32 if document.get("format", 1) == 1 else 128)
+    sizes = {other["name"]: 256 * image["blocks"] for other in document["process"] for image in document["image"] if image["name"] == other["image"]}
+    holds = (lambda link: boot_file.is_known(link, sizes)) if number == 19 else (lambda link: link_limit_told(link, sizes) is None)
+    bad = next(k for k, link in enumerate(links) if not holds(link))
+    said = target_told(links[bad]) if number == 19 else link_limit_told(links[bad], sizes)
+    return title + f"link {bad}: {said}"
+
+
+def link_keys_told(link):
+    if not isinstance(link, dict):
+        return "it must be a table"
+    return keys_told(link, CONTROL if "control" in link else LINK)
+
+
+def target_told(link):
+    if "control" in link:
+        return f"no process is named {quoted(link['control'])}"
+    return f"no process or server is named {quoted(link['to'])}"
+
+
+def link_limit_told(link, sizes):
+    """Why a link's numbers aren't within their limits, if they aren't."""
+    if "control" in link:
+        return None
+    limits = [("channel", 0, 31), ("code", 0, 2**32 - 1), ("base", 0, 65_536), ("len", 0, 65_536)]
+    if link["to"] not in sizes:
+        plain = not any(link.get(key, 0) for key in ("code", "base", "len", "read", "write"))
+        return limit_told(link, limits[:1]) or (None if plain else "a link to a server has no code, base, len, read or write")
+    size = sizes[link["to"]]
+    fits = link.get("base", 0) + link.get("len", 0) <= size
+    return limit_told(link, limits) or (None if fits else f"base and len are more than {size} together, the bytes of the memory of {quoted(link['to'])}")
+
+
+# The lines of an image's text
+
+DIRECTIVES = {".word": "v", ".byte": "b", ".zero": "z"}
+RANGES = {"n": ", must be 0 to 255", "b": ", must be 0 to 255", "z": ", must be 0 to 65536", "d": ", must be -128 to 127 whole words from the next instruction"}
+MISSING = {"d": "a label must stand where none stands", "v": "a number or label must stand where none stands"}
+
+
+def kinds_of(word):
+    return FORMS[word][0] if word in FORMS else DIRECTIVES[word]
+
+
+def places_of(lines):
+    """The labels of a text, its lines that have one of an earlier line, and the address of each line. A line whose word is none,
+    a bad label too, counts no bytes."""
+    labels, again, places, at = {}, set(), [], 0
+    for number, line in enumerate(lines, 1):
+        label, words, bad_label = parts_of(line)
+        places.append(at)
+        if label is not None:
+            if label in labels:
+                again.add(number)
+            else:
+                labels[label] = at
+        at += 0 if bad_label else size_of(words)
+    return labels, again, places
+
+
+def why_of(number, line, labels, again, at):
+    """Why a line is refused, if it is: the number of the reason."""
+    _, words, bad_label = parts_of(line)
+    if bad_label or words and words[0] not in FORMS and words[0] not in DIRECTIVES:
+        return 1
+    if number in again:
+        return 6
+    if words and not count_fits(words[0], len(words) - 1):
+        return 7
+    try:
+        if words:
+            bytes_of(words, labels, at)
+    except Wrong as wrong:
+        return wrong.why
+    return 8 if at <= MOST_BYTES < at + size_of(words) else None
+
+
+def line_before(data, text):
+    """The line of a file behind which an image's text begins, where the file has it as it is between three quotation marks."""
+    sought = [marks + b"\n" + text.encode("utf-8") + marks for marks in (b'"""', b"'''")]
+    found = [place for place in map(data.find, sought) if place >= 0]
+    return data.count(b"\n", 0, min(found)) + 1 if found else None
+
+
+def text_told(image, data):
+    """What is said of each line of an image's text that is refused."""
+    lines, said = image["text"].split("\n"), []
+    before = line_before(data, image["text"])
+    labels, again, places = places_of(lines)
+    for number, line in enumerate(lines, 1):
+        why = why_of(number, line, labels, again, places[number - 1])
+        if why is not None:
+            said.append(f"rule 11: image {quoted(image['name'])}, line {number}: {line_told(why, line)}")
+            if why == 3 and number_due(line):
+                said.append(A_NUMBER)
+            if before is not None:
+                said.append(f"    line {before + number} of the file")
+    return said
+
+
+def statement_of(line):
+    """The word of a line that has one, and its operands."""
+    words = words_of(line)
+    for start in (0, 1):
+        if len(words) > start and (words[start] in FORMS or words[start] in DIRECTIVES):
+            return words[start], words[start + 1 :]
+    return None, []
+
+
+def last_kind(word):
+    """What the last operand is, or each of `.byte`."""
+    return kinds_of(word)[-1]
+
+
+def number_due(line):
+    """Whether a number may stand where none stands."""
+    return last_kind(statement_of(line)[0]) != "d"
+
+
+def refused_operand(word, operands):
+    """The operand that is refused, by its place from 1."""
+    kinds = kinds_of(word)
+    for place, operand in enumerate(operands, 1):
+        kind = "b" if kinds == "b" else kinds[place - 1]
+        if kind == "r" and REGISTER.fullmatch(operand):
+            continue
+        if kind == "b" and NUMBER.fullmatch(operand) and int(operand, 16 if operand.startswith("0x") else 10) <= 255:
+            continue
+        return place, operand
+    return None
+
+
+def line_told(why, line):
+    said = f": {quoted(line)}"
+    if why == 1:
+        words = words_of(line)
+        first = words[0]
+        bad = first.endswith(":") and not LABEL.fullmatch(first[:-1])
+        return "no such word" + said + (f": {quoted(first)}{A_LABEL}" if bad else "")
+    if why == 6:
+        return "an earlier line has this label" + said
+    if why == 8:
+        return "the image has more than 65536 bytes with this line" + said
+    word, operands = statement_of(line)
+    if why == 7:
+        due = "1 or more" if word == ".byte" else len(kinds_of(word))
+        return f"more or fewer operands than the word has{said}: the word has {due}, not {len(operands)}"
+    place, operand = refused_operand(word, operands)
+    which = f": operand {place}, {quoted(operand)}"
+    kind = last_kind(word)
+    if why == 2:
+        return "a register must stand where none stands" + said + which + ", must be r0 to r15"
+    if why == 3:
+        return MISSING.get(kind, "a number must stand where none stands") + said + which
+    if why == 5:
+        return "no line has this label" + said + which
+    most = 2**32 - 1 if word == ".word" else 65_535
+    return "a number is out of range" + said + which + RANGES.get(kind, f", must be 0 to {most}")
+
+
+# What the files say where nothing is wrong
+
+
+def system_told(boot, document):
+    form = document.get("format", 1)
+    said = [f"format {form}, numbers {boot.numbers}, quantum {boot.quantum}"]
+    said += [f"machine {number}: {slots} slots, {blocks} blocks" for number, (slots, blocks) in enumerate(boot.machines)]
+    said += [f"image {number}: {quoted(image.name)}, {image.blocks} blocks, {len(image.code)} bytes of text" for number, image in enumerate(boot.images)]
+    for born, table in zip(boot.processes, document.get("process", [])):
+        said.append(f"process {born.pid}: {quoted(table['name'])}, image {quoted(table['image'])}, links: {len(born.links)}")
+        said += [f"    {link_told(number, link)}" for number, link in enumerate(born.links)]
+    return said + parts_told(boot, [table["name"] for table in document.get("process", [])])
+
+
+def link_told(number, link):
+    rights = {(True, True): ", to read and write", (True, False): ", to read", (False, True): ", to write", (False, False): ""}
+    kind = "reply" if link.reply else "general"
+    area = f"area {link.base} {link.length}{rights[link.read, link.write]}"
+    return f"link {number}: {kind} to {link.address.pid} at {link.address.at}, code {link.code}, channel {link.channel}, {area}"
+
+
+def parts_told(boot, names):
+    """The parts of a system, where there is more than one (docs/CONFINEMENT.md)."""
+    last = len(boot.processes)
+    numbers = {born.pid: number for number, born in enumerate(boot.processes)} | {SWITCHBOARD: last}
+    part = list(range(last + 1))
+    for number, born in enumerate(boot.processes):
+        for link in born.links:
+            other = link.code - 1 if link.address.pid == MANAGER and link.code else numbers.get(link.address.pid)
+            if other is not None and other <= last and link.address.pid in (MANAGER, *numbers):
+                low, high = sorted((part[number], part[other]))
+                part = [low if one == high else one for one in part]
+    firsts = sorted({part[number] for number in range(last)})
+    if len(firsts) < 2:
+        return []
+    return ["part: " + ", ".join([*names, "switchboard"][number] for number in range(last + 1) if part[number] == first) for first in firsts]
+
+
+# The schedule
+
+PLACES = {
+    "m": ("a machine's number must stand where none stands", ", must be 0 to {last}"),
+    "p": ("a process's number, as 0.3, must stand where none stands", ", must be H.N with H 0 to {last} and N 0 to 4294967295"),
+    "k": ("a number must stand where none stands", ", must be 0 to 4294967295"),
+    "n": ("a number must stand where none stands", ", must be 1 to 65536"),
+}
+
+
+def schedule_told(data, boot):
+    machines = len(boot.machines)
+    try:
+        directives = schedule_file.read_schedule(data, machines)
+    except schedule_file.Refused as refused:
+        return bad_line_told(schedule_file.lines_of(data)[refused.line - 1], refused, machines)
+    counts = ", ".join(f"{word} {sum(one == word for one, _ in directives)}" for word in schedule_file.FORMS)
+    return [f"schedule: {len(directives)} directives: {counts}"]
+
+
+def bad_line_told(line, refused, machines):
+    words = line.replace(b"\t", b" ").split()
+    words = [word for word in line.replace(b"\t", b" ").split(b" ") if word]
+    why, title, said = refused.why, f"schedule, line {refused.line}: why {refused.why}: ", f": {quoted(line)}"
+    if why == 1:
+        return [title + "no such word" + said]
+    kinds = schedule_file.FORMS[words[0].decode("latin-1")]
+    if why == 2:
+        return [title + f"more or fewer operands than the word has{said}: the word has {len(kinds)}, not {len(words) - 1}"]
+    if why == 5:
+        return [title + "the two machines are one" + said]
+    for place, (kind, word) in enumerate(zip(kinds, words[1:]), 1):
+        try:
+            operand_of(kind, word, machines)
+        except schedule_file.Wrong:
+            break
+    which = f": operand {place}, {quoted(word)}"
+    if why == 3:
+        return [title + PLACES[kind][0] + said + which, SOME_DIGITS]
+    return [title + "a number is out of range, or no machine's" + said + which + PLACES[kind][1].format(last=machines - 1)]
+
+
+def operand_of(kind, word, machines):
+    if kind == "p":
+        return schedule_file.pid_of(word, machines)
+    low, high = {"m": (0, machines - 1), "k": (0, schedule_file.MOST), "n": (1, 65_536)}[kind]
+    return schedule_file.number_of(word, low, high)
+
+
+def explain(data, schedule=None):
+    """The lines that are said of a boot file, and of a schedule where there is one; and what ends it, if something is wrong. The
+    schedule is read only where nothing is wrong with the boot file: `schedule` gives its bytes."""
+    document = {}
+    try:
+        document = boot_file.document_of(data)
+        boot = boot_file.read_boot(data)
+    except boot_file.Refused as refused:
+        return (rule_told(refused.number, refused.place, document, data) if refused.number != 1 else ["rule 1: no document"]), refused
+    said = system_told(boot, document)
+    if schedule is None:
+        return said, None
+    lines = schedule()
+    try:
+        schedule_file.read_schedule(lines, len(boot.machines))
+    except schedule_file.Refused as refused:
+        return said + schedule_told(lines, boot), refused
+    return said + schedule_told(lines, boot), None
