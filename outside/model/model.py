@@ -23,7 +23,7 @@ import schedule as schedule_file
 from counting import Counts, quiet_line
 from drill import directives_of, drawn_boot, drill
 from ends import end_lines
-from explaining import explain, schedule_told
+from explaining import explain
 from looking import Enough, look
 from onekernel import Refused as LabelsRefused
 from onekernel import check_labels
@@ -81,19 +81,11 @@ def bytes_of(name, most, kind):
 
 
 def boot_of(options):
-    data = bytes_of(options["--boot"], LONGEST_BOOT, "boot")
-    try:
-        return boot_file.read_boot(data)
-    except boot_file.Refused as refused:
-        raise Stop(6, str(refused), explain(data)[0][:1]) from None
+    return boot_file.read_boot(bytes_of(options["--boot"], LONGEST_BOOT, "boot"))
 
 
 def directives_in(options, boot):
-    data = bytes_of(options["--schedule"], LONGEST, "schedule")
-    try:
-        return schedule_file.read_schedule(data, len(boot.machines))
-    except schedule_file.Refused as refused:
-        raise Stop(7, str(refused), schedule_told(data, boot)[:1]) from None
+    return schedule_file.read_schedule(bytes_of(options["--schedule"], LONGEST, "schedule"), len(boot.machines))
 
 
 def do_run(words, write):

@@ -15,5 +15,4 @@ pub mod OwnDrilling
 pub mod Looking
 pub mod Obeying
 pub mod Silent
-pub mod Saying
 pub mod Carrying

@@ -1,6 +1,6 @@
 -- What a drill of a boot file's system promises.
 use Rattle.dm_commands.proofs.Names.{◌≡◌, ◌≤◌, ◌⊎◌, inl, inr, ℕ, Bool, true, nat_le, arith, nat_tests, List, length, refl, ap, sym, subst, ◌∙◌, Option, Some, None, Boot, IsValid, Directive, World, All, IsFor, RoseOrFull, Result, Ok, Err, OnErr, OnOk, Failed}
-use Rattle.dm_commands.proofs.Names.{IsWant, Input, Status, Done, Usage, ReadFault, NoMemory, WriteFault, BootRefused, NoBoot, SaysBoot, IsCutShort, appended}
+use Rattle.dm_commands.proofs.Names.{IsWant, Input, Status, Done, Usage, ReadFault, NoMemory, WriteFault, NoBoot, SaysBoot, IsCutShort, appended}
 use Rattle.dm_draw.proofs.Within.{directives_fit, own_fits}
 use Rattle.dm_draw.specs.Own.{own_drawn}
 use Rattle.dm_draw.specs.declared.drill.OwnDrill.{OwnDrill}
@@ -37,12 +37,6 @@ pub never_read : (r : Notion) (d : OwnDrill) (shown : Shows) (b : Boot) (ds : Li
 never_read r d shows.Summary b ds before after w i h = h
 never_read r d shows.Groups b ds before after w i h = h
 never_read r d shows.Directives b ds before after w i h = h
-
--- and none that the boot file is refused
-pub never_refused : (r : Notion) (d : OwnDrill) (shown : Shows) (b : Boot) (ds : List Directive) (before after : Option (List ℕ)) (w : Option World) (number place : ℕ) → ShownSays r d shown b ds before after w (BootRefused number place) → ⊥
-never_refused r d shows.Summary b ds before after w number place h = h
-never_refused r d shows.Groups b ds before after w number place h = h
-never_refused r d shows.Directives b ds before after w number place h = h
 
 -- where the file gives a system, only want of memory comes before the drill
 pub only_lack : (boot : List ℕ) (told : Option Files) (files : Files) (old new : ℕ) (b : Boot) (t : Status) → told ≡ Some files → NoBoot told boot old new t → SaysBoot (Some files) boot b → (RoseOrFull old new → ⊥) → IsWant t

@@ -12,6 +12,5 @@ pub mod Charts
 pub mod Looks
 pub mod Explains
 pub mod Judges
-pub mod Firsts
 pub mod Commands
 pub mod Says

@@ -2,7 +2,6 @@
 ghost use Rattle.std.specs.Prelude.{◌≡◌, ◌≤◌, ℕ, List, None, length};
 ghost use Rattle.dm_onekernel.specs.declared.boot.Boot.{Boot as TheBoot};
 ghost use Rattle.dm_onekernel.specs.Boot.{IsValid};
-ghost use Rattle.dm_commands.specs.Firsts.{FirstOfBoot};
 ghost use Rattle.dm_commands.specs.Checks.{CheckMeets, CheckSays, IsGoodTrace, end_word, good_line};
 ghost use Rattle.dm_commands.specs.Meets.{MeetsSink};
 ghost use Rattle.dm_run.specs.Went.{RunsGo};
@@ -24,15 +23,13 @@ pub fn check_files<F: Shelf, K: Sink>(
     trace: &str,
     shelf: &mut F,
     out: &mut K,
-    said: &mut Vec<u8>,
 ) -> Status
     requires law { RunsGo }
     ensures meets { CheckMeets (CheckSays traced_by_world) boot.now trace.now
         (around (shelf_around F.asked F.told F.faults F.last_failed shelf.old shelf.new)
         (sink_around K.told K.faults K.last_failed out.old out.new)) None result }
-    ensures said { FirstOfBoot (F.told shelf.old) boot.now result said.new.items }
 {
-    match read_trace_files(alloc, boot, trace, shelf, said) {
+    match read_trace_files(alloc, boot, trace, shelf) {
         Ok(traced) => check(alloc, traced, out),
         Err(status) => status,
     }

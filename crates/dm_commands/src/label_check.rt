@@ -4,7 +4,6 @@ ghost use Rattle.dm_onekernel.specs.declared.boot.Boot.{Boot as TheBoot};
 ghost use Rattle.dm_onekernel.specs.Boot.{IsValid};
 ghost use Rattle.dm_labels.specs.Judged.{judged};
 ghost use Rattle.dm_labels.specs.declared.judge.Verdict.TheVariants as verdict;
-ghost use Rattle.dm_commands.specs.Firsts.{FirstOfBoot};
 ghost use Rattle.dm_commands.specs.Asked.{Alone, Both};
 ghost use Rattle.dm_commands.specs.Inputs.{HasFile};
 ghost use Rattle.dm_commands.specs.LabelChecks.{HasLabels, LabelsMeet, LabelsSay, NoLabelBytes, NoLabels, good_labels_line, most_labels};
@@ -38,14 +37,12 @@ pub fn check_label_files<F: Shelf, K: Sink>(
     labels: &str,
     shelf: &mut F,
     out: &mut K,
-    said: &mut Vec<u8>,
 ) -> Status
     ensures meets { LabelsMeet boot.now labels.now
         (around (shelf_around F.asked F.told F.faults F.last_failed shelf.old shelf.new)
         (sink_around K.told K.faults K.last_failed out.old out.new)) None result }
-    ensures said { FirstOfBoot (F.told shelf.old) boot.now result said.new.items }
 {
-    match read_label_files(alloc, boot, labels, shelf, said) {
+    match read_label_files(alloc, boot, labels, shelf) {
         Ok(labelled) => check(alloc, &labelled.boot, labelled.labels.as_slice(), out),
         Err(status) => status,
     }
@@ -57,7 +54,6 @@ fn read_label_files<F: Shelf>(
     boot: &str,
     labels: &str,
     shelf: &mut F,
-    said: &mut Vec<u8>,
 ) -> Result<Labelled, Status>
     ensures has { IfOk result (λ l. HasLabels (F.told shelf.old) boot.now labels.now l.boot l.labels.items) }
     ensures valid { IfOk result (λ l. IsValid l.boot) }
@@ -65,9 +61,8 @@ fn read_label_files<F: Shelf>(
     ensures none { IfErr result (λ s. NoLabels (F.told shelf.old) boot.now labels.now (F.faults shelf.old) (F.faults shelf.new) s) }
     ensures shelf { MeetsShelf (Both boot.now input_.Labels labels.now)
         (shelf_around F.asked F.told F.faults F.last_failed shelf.old shelf.new) (status_so_far result) }
-    ensures said { FirstOfBoot (F.told shelf.old) boot.now (status_so_far result) said.new.items }
 {
-    let boot = read_system(alloc, boot, shelf, said)?;
+    let boot = read_system(alloc, boot, shelf)?;
     let labels = read_labels(alloc, labels, shelf)?;
     Ok(Labelled { boot, labels })
 }

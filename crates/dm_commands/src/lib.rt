@@ -6,7 +6,6 @@ pub mod check;
 pub mod count;
 pub mod drill;
 pub mod explain;
-mod first;
 pub mod inputs;
 pub mod judge;
 pub mod label_check;

@@ -6,7 +6,6 @@ ghost use Rattle.dm_look.specs.Looked.{held_by_world};
 ghost use Rattle.dm_run.specs.Notion.{by_world};
 ghost use Rattle.dm_run.specs.Runs.{IsFor};
 ghost use Rattle.dm_run.specs.Went.{RunsGo};
-ghost use Rattle.dm_commands.specs.Firsts.{FirstOfFiles};
 ghost use Rattle.dm_commands.specs.Looks.{LookMeets, LookSays};
 ghost use Rattle.dm_commands.specs.Meets.{MeetsSink};
 ghost use Rattle.dm_commands.specs.Outside.{around, shelf_around, sink_around};
@@ -30,15 +29,13 @@ pub fn look_files<F: Shelf, K: Sink>(
     groups: u32,
     shelf: &mut F,
     out: &mut K,
-    said: &mut Vec<u8>,
 ) -> Status
     requires law { RunsGo }
     ensures meets { LookMeets (LookSays by_world held_by_world groups) boot.now schedule.now
         (around (shelf_around F.asked F.told F.faults F.last_failed shelf.old shelf.new)
         (sink_around K.told K.faults K.last_failed out.old out.new)) None result }
-    ensures said { FirstOfFiles (F.told shelf.old) boot.now schedule.now result said.new.items }
 {
-    match read_files(alloc, boot, schedule, shelf, said) {
+    match read_files(alloc, boot, schedule, shelf) {
         Ok(inputs) => look(alloc, inputs, groups, out),
         Err(status) => status,
     }

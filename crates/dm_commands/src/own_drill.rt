@@ -11,7 +11,6 @@ ghost use Rattle.dm_world.specs.declared.world.World.{World as TheWorld};
 ghost use Rattle.dm_words.specs.DrillWords.{OwnIsWithin};
 ghost use Rattle.dm_drill.specs.Schedules.{schedule_text};
 ghost use Rattle.dm_ending.specs.declared.status.Input.TheVariants as input_;
-ghost use Rattle.dm_commands.specs.Firsts.{FirstOfBoot};
 ghost use Rattle.dm_commands.specs.Asked.{Alone};
 ghost use Rattle.dm_commands.specs.Drills.{CountedSays};
 ghost use Rattle.dm_commands.specs.Inputs.{NoBoot, SaysBoot};
@@ -45,17 +44,15 @@ pub fn drill_file<F: Shelf, K: Sink>(
     shelf: &mut F,
     out: &mut K,
     world: &mut Option<World>,
-    said: &mut Vec<u8>,
 ) -> Status
     requires law { RunsGo }
     requires within { OwnIsWithin drill.now }
     ensures meets { OwnMeets (OwnSays by_world drill.now) boot.now drill.now
         (around (shelf_around F.asked F.told F.faults F.last_failed shelf.old shelf.new)
         (sink_around K.told K.faults K.last_failed out.old out.new)) world.new result }
-    ensures said { FirstOfBoot (F.told shelf.old) boot.now result said.new.items }
 {
     *world = None;
-    match read_drawn(alloc, boot, drill, shelf, said) {
+    match read_drawn(alloc, boot, drill, shelf) {
         Ok(inputs) => show(alloc, drill, inputs, out, world),
         Err(status) => status,
     }
@@ -67,7 +64,6 @@ fn read_drawn<F: Shelf>(
     boot: &str,
     drill: &OwnDrill,
     shelf: &mut F,
-    said: &mut Vec<u8>,
 ) -> Result<Inputs, Status>
     requires within { OwnIsWithin drill.now }
     ensures says { IfOk result (λ i. SaysBoot (F.told shelf.old) boot.now i.boot) }
@@ -78,9 +74,8 @@ fn read_drawn<F: Shelf>(
     ensures none { IfErr result (λ s. NoBoot (F.told shelf.old) boot.now (F.faults shelf.old) (F.faults shelf.new) s) }
     ensures shelf { MeetsShelf (Alone input_.Boot boot.now)
         (shelf_around F.asked F.told F.faults F.last_failed shelf.old shelf.new) (status_so_far result) }
-    ensures said { FirstOfBoot (F.told shelf.old) boot.now (status_so_far result) said.new.items }
 {
-    let boot = read_system(alloc, boot, shelf, said)?;
+    let boot = read_system(alloc, boot, shelf)?;
     let machines = boot.machines.len() as u8;
     match draw_for(alloc, machines, boot.processes.as_slice(), drill) {
         Ok(directives) => Ok(Inputs { boot, directives }),

@@ -5,7 +5,6 @@ ghost use Rattle.dm_onekernel.specs.Boot.{IsValid};
 ghost use Rattle.dm_run.specs.Notion.{by_world};
 ghost use Rattle.dm_run.specs.Runs.{IsFor};
 ghost use Rattle.dm_run.specs.Went.{RunsGo};
-ghost use Rattle.dm_commands.specs.Firsts.{FirstOfFiles};
 ghost use Rattle.dm_commands.specs.Meets.{MeetsSink};
 ghost use Rattle.dm_commands.specs.Outside.{around, shelf_around, sink_around};
 ghost use Rattle.dm_commands.specs.Runs.{RunMeets, RunSays};
@@ -27,16 +26,14 @@ pub fn run_files<F: Shelf, K: Sink>(
     shelf: &mut F,
     out: &mut K,
     world: &mut Option<World>,
-    said: &mut Vec<u8>,
 ) -> Status
     requires law { RunsGo }
     ensures meets { RunMeets (RunSays by_world) boot.now schedule.now
         (around (shelf_around F.asked F.told F.faults F.last_failed shelf.old shelf.new)
         (sink_around K.told K.faults K.last_failed out.old out.new)) world.new result }
-    ensures said { FirstOfFiles (F.told shelf.old) boot.now schedule.now result said.new.items }
 {
     *world = None;
-    match read_files(alloc, boot, schedule, shelf, said) {
+    match read_files(alloc, boot, schedule, shelf) {
         Ok(inputs) => run(alloc, inputs, out, world),
         Err(status) => status,
     }

@@ -3,7 +3,6 @@ ghost use Rattle.std.specs.Prelude.{◌≡◌, map};
 ghost use Rattle.dm_run.specs.Went.{RunsGo};
 ghost use Rattle.dm_words.specs.Words.{IsTaken, request_of};
 ghost use Rattle.dm_commands.specs.Commands.{CommandMeets};
-ghost use Rattle.dm_commands.specs.Firsts.{SaysFirst};
 ghost use Rattle.dm_commands.specs.Outside.{around, shelf_around, sink_around};
 ghost use Rattle.dm_commands.specs.Says.{of_world};
 
@@ -23,42 +22,36 @@ use dm_words::words::{Request, read_words};
 use dm_world::World;
 use std::alloc::Global;
 
-/// Does what the words ask for, a row a command. The world of a run is left in `world`, which is empty where there was none; and
-/// in `said` what `explain` says first of a file that is refused, before the line of its status.
+/// Does what the words ask for, a row a command. The world of a run is left in `world`, which is empty where there was none.
 pub fn do_words<F: Shelf, K: Sink>(
     alloc: Global,
     words: &[&str],
     shelf: &mut F,
     out: &mut K,
     world: &mut Option<World>,
-    said: &mut Vec<u8>,
 ) -> Status
     requires law { RunsGo }
     ensures meets { CommandMeets of_world (request_of (map (λ w. w.now) words.now))
         (around (shelf_around F.asked F.told F.faults F.last_failed shelf.old shelf.new)
         (sink_around K.told K.faults K.last_failed out.old out.new)) world.new result }
-    ensures said { SaysFirst (request_of (map (λ w. w.now) words.now)) (F.told shelf.old) result said.new.items }
     ensures refused { result ≡ Status.Usage → IsTaken (map (λ w. w.now) words.now) → ⊥ }
 {
     *world = None;
-    *said = Vec::new(alloc);
     match read_words(alloc, words) {
         Ok(Request::Run { boot, schedule }) => {
-            run_files(alloc, boot, schedule, shelf, out, world, said)
+            run_files(alloc, boot, schedule, shelf, out, world)
         }
-        Ok(Request::Check { boot, trace }) => check_files(alloc, boot, trace, shelf, out, said),
+        Ok(Request::Check { boot, trace }) => check_files(alloc, boot, trace, shelf, out),
         Ok(Request::CheckLabels { boot, labels }) => {
-            check_label_files(alloc, boot, labels, shelf, out, said)
+            check_label_files(alloc, boot, labels, shelf, out)
         }
-        Ok(Request::Chart { boot, schedule }) => chart_files(
-            alloc, boot, schedule, shelf, out, said,
-        ),
+        Ok(Request::Chart { boot, schedule }) => chart_files(alloc, boot, schedule, shelf, out),
         Ok(Request::Explain { boot, schedule }) => {
             explain_files(alloc, boot, schedule, shelf, out)
         }
         Ok(Request::Judge { boot, trace }) => judge_files(alloc, boot, trace, shelf, out),
         Ok(Request::Count { boot, schedule }) => {
-            count_files(alloc, boot, schedule, shelf, out, world, said)
+            count_files(alloc, boot, schedule, shelf, out, world)
         }
         Ok(
             Request::Look {
@@ -66,10 +59,10 @@ pub fn do_words<F: Shelf, K: Sink>(
                 schedule,
                 groups,
             },
-        ) => look_files(alloc, boot, schedule, groups, shelf, out, said),
+        ) => look_files(alloc, boot, schedule, groups, shelf, out),
         Ok(Request::Drill(drawn)) => drill(alloc, &drawn, out, world),
         Ok(Request::OwnDrill { boot, drill: drawn }) => {
-            drill_file(alloc, boot, &drawn, shelf, out, world, said)
+            drill_file(alloc, boot, &drawn, shelf, out, world)
         }
         Err(no) => no.status(),
     }

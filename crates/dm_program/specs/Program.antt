@@ -1,5 +1,5 @@
 -- What the program promises, by what its words ask for.
-use Rattle.std.specs.Prelude.{◌≡◌, ℕ, List, [], ◌∷◌, ◌++◌, Vec, String, map, string_bytes}
+use Rattle.std.specs.Prelude.{◌≡◌, List, [], ◌∷◌, ◌++◌, Vec, String, map, string_bytes}
 use Rattle.std.specs.List.{concat}
 use Rattle.std.specs.declared.alloc.Global.{Global}
 use Rattle.std.specs.declared.option.Option.{Option}
@@ -20,7 +20,7 @@ use Rattle.dm_commands.specs.Commands.{CommandMeets, named_in}
 use Rattle.dm_commands.specs.Meets.{MeetsOutside}
 use Rattle.dm_commands.specs.Outside.{Around, SinkAround, Untouched, outside}
 use Rattle.dm_program.specs.Decided.{IsDecided}
-use Rattle.dm_program.specs.Given.{GivenFirst, given_pieces}
+use Rattle.dm_program.specs.Given.{given_pieces}
 use Rattle.dm_program.specs.Rule.{of_rule}
 
 -- what was asked for was done, as the rule has it; the files decide what it comes to; and so it is with the shelf and the sink,
@@ -41,13 +41,10 @@ abbrev pub GivenMeets : {F K : Type 0} → Result (Vec (String Global) Global) W
 GivenMeets (Ok words) a world s = ProgramMeets (request_of (map string_bytes words.items)) a world s
 GivenMeets (Err reason) a world s = HasNoWords reason a world s
 
--- the program has ended with a status: what is said of it, what is said of a file that is refused and its line were offered to standard
--- error, and its number is the program's
+-- the program has ended with a status: what is said of it and its line were offered to standard error, and its number is the program's
 pub record Finishes {F K E : Type 0} (given : Result (Vec (String Global) Global) WordsError) (a : Around F K) (errors : SinkAround E) (code : ExitCode) : Type 0 where
   pub status : Status
   pub world : Option World
   pub meets : GivenMeets given a world status
-  pub said : List ℕ
-  pub first : GivenFirst given (a.shelf.told a.shelf.old) status said
-  pub says : Written (errors.told errors.old) (concat (given_pieces given status ++ said ∷ line_of_status status ∷ [])) (errors.told errors.new) (errors.faults errors.old) (errors.faults errors.new) (errors.last_failed errors.new)
+  pub says : Written (errors.told errors.old) (concat (given_pieces given status ++ line_of_status status ∷ [])) (errors.told errors.new) (errors.faults errors.old) (errors.faults errors.new) (errors.last_failed errors.new)
   pub number : exit_status code ≡ code_of status

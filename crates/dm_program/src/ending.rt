@@ -15,57 +15,45 @@ use dm_words::usage::Said;
 use dm_words::words::WordsError;
 use std::process::ExitCode;
 
-/// Writes what is said of a status, then this of a file that is refused, and the status's line behind that, and gives its number. What
-/// the sink cuts changes no number.
+/// Writes what is said of a status, and its line behind that, and gives its number. What the sink cuts changes no number.
 pub fn end<K: Sink>(
     given: &Result<Vec<String>, WordsError>,
     status: &Status,
-    of_file: &[u8],
     errors: &mut K,
 ) -> ExitCode
     ensures number { exit_status result ≡ code_of status.now }
-    ensures says { Written (K.told errors.old) (concat (given_pieces given.now status.now ++ of_file.now ∷ line_of_status status.now ∷ [])) (K.told errors.new)
+    ensures says { Written (K.told errors.old) (concat (given_pieces given.now status.now ++ line_of_status status.now ∷ [])) (K.told errors.new)
         (K.faults errors.old) (K.faults errors.new) (K.last_failed errors.new) }
 {
-    say(given, status, of_file, errors);
+    say(given, status, errors);
     ExitCode::from(status.code())
 }
 
-/// Writes what is said of a status, then this, and its line behind that.
-fn say<K: Sink>(
-    given: &Result<Vec<String>, WordsError>,
-    status: &Status,
-    of_file: &[u8],
-    errors: &mut K,
-)
-    ensures { Written (K.told errors.old) (concat (given_pieces given.now status.now ++ of_file.now ∷ line_of_status status.now ∷ [])) (K.told errors.new)
+/// Writes what is said of a status, and its line behind that.
+fn say<K: Sink>(given: &Result<Vec<String>, WordsError>, status: &Status, errors: &mut K)
+    ensures { Written (K.told errors.old) (concat (given_pieces given.now status.now ++ line_of_status status.now ∷ [])) (K.told errors.new)
         (K.faults errors.old) (K.faults errors.new) (K.last_failed errors.new) }
 {
     match given {
-        Ok(words) => write_said(
-            &said_before(words.as_slice(), status),
-            of_file,
-            status,
-            errors,
-        ),
-        Err(no) => say_none(*no, of_file, status, errors),
+        Ok(words) => write_said(&said_before(words.as_slice(), status), status, errors),
+        Err(no) => say_none(*no, status, errors),
     }
 }
 
 /// The same where there are no words.
-fn say_none<K: Sink>(no: WordsError, of_file: &[u8], status: &Status, errors: &mut K)
-    ensures { Written (K.told errors.old) (concat (none_pieces no ++ of_file.now ∷ line_of_status status.now ∷ [])) (K.told errors.new)
+fn say_none<K: Sink>(no: WordsError, status: &Status, errors: &mut K)
+    ensures { Written (K.told errors.old) (concat (none_pieces no ++ line_of_status status.now ∷ [])) (K.told errors.new)
         (K.faults errors.old) (K.faults errors.new) (K.last_failed errors.new) }
 {
     match no {
-        WordsError::Usage => write_said(&not_unicode(), of_file, status, errors),
-        WordsError::NoMemory(_) => write_said(&nothing(), of_file, status, errors),
+        WordsError::Usage => write_said(&not_unicode(), status, errors),
+        WordsError::NoMemory(_) => write_said(&nothing(), status, errors),
     }
 }
 
-/// Writes this of the words, then this of a file, and the line of a status behind that.
-fn write_said<K: Sink>(said: &Said<'_>, of_file: &[u8], status: &Status, errors: &mut K)
-    ensures { Written (K.told errors.old) (concat (pieces_of said.now ++ of_file.now ∷ line_of_status status.now ∷ [])) (K.told errors.new)
+/// Writes this, and the line of a status behind it.
+fn write_said<K: Sink>(said: &Said<'_>, status: &Status, errors: &mut K)
+    ensures { Written (K.told errors.old) (concat (pieces_of said.now ++ line_of_status status.now ∷ [])) (K.told errors.new)
         (K.faults errors.old) (K.faults errors.new) (K.last_failed errors.new) }
 {
     let line = status_line(status);
@@ -77,7 +65,6 @@ fn write_said<K: Sink>(said: &Said<'_>, of_file: &[u8], status: &Status, errors:
             told.three,
             told.four,
             said.lines,
-            of_file,
             line.as_bytes(),
         ],
         errors,

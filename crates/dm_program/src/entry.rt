@@ -3,7 +3,6 @@ ghost use Rattle.std.specs.Prelude.{◌≡◌, map, IfErr, IfOk, string_bytes};
 ghost use Rattle.std.specs.Vec.Iter.{into_iter_steps};
 ghost use Rattle.std.specs.Iterator.Runs.{WholeRun};
 ghost use Rattle.dm_memory.specs.Args.{ArgsLackMemory};
-ghost use Rattle.dm_program.specs.Given.{GivenFirst};
 ghost use Rattle.dm_program.specs.Program.{Finishes, GivenMeets};
 ghost use Rattle.dm_commands.specs.Outside.{around, shelf_around, sink_around};
 ghost use Rattle.dm_words.specs.Words.{IsTaken};
@@ -52,32 +51,28 @@ pub fn finish<F: Shelf, K: Sink, E: Sink>(
         (sink_around E.told E.faults E.last_failed errors.old errors.new) result }
 {
     let mut world = None;
-    let mut said = Vec::new(alloc);
-    let status = run_given(alloc, &given, shelf, out, &mut world, &mut said);
-    end(&given, &status, said.as_slice(), errors)
+    let status = run_given(alloc, &given, shelf, out, &mut world);
+    end(&given, &status, errors)
 }
 
 /// Runs the program on the words that it was given, each of them and no other, in order; on none where there are none,
-/// and then nothing is read or written, and no world is left. What is said of a file that is refused is left in `said`.
+/// and then nothing is read or written, and no world is left.
 pub fn run_given<F: Shelf, K: Sink>(
     alloc: Global,
     given: &Result<Vec<String>, WordsError>,
     shelf: &mut F,
     out: &mut K,
     world: &mut Option<World>,
-    said: &mut Vec<u8>,
 ) -> Status
     ensures meets { GivenMeets given.now
         (around (shelf_around F.asked F.told F.faults F.last_failed shelf.old shelf.new)
         (sink_around K.told K.faults K.last_failed out.old out.new)) world.new result }
-    ensures said { GivenFirst given.now (F.told shelf.old) result said.new.items }
     ensures refused { IfOk given.now (λ words. result ≡ Status.Usage → IsTaken (map string_bytes words.items) → ⊥) }
 {
     *world = None;
-    *said = Vec::new(alloc);
     match given {
         Ok(words) => match texts(alloc, words.as_slice()) {
-            Ok(texts) => run_program(alloc, texts.as_slice(), shelf, out, world, said),
+            Ok(texts) => run_program(alloc, texts.as_slice(), shelf, out, world),
             Err(no) => Status::NoMemory(no),
         },
         Err(no) => no.status(),

@@ -1,13 +1,7 @@
-use Rattle.dm_commands.proofs.Names.{Status}
-use Rattle.dm_commands.proofs.Meeting.{all_read, passed_on}
+use Rattle.dm_commands.proofs.Meeting.{all_read}
 use Rattle.dm_commands.specs.Asked.{Alone}
-use Rattle.dm_commands.specs.Firsts.{FirstOfBoot}
 use Rattle.dm_ending.specs.declared.status.Input.TheVariants as input
 use Rattle.dm_commands.proofs.own_drill.read_drawn.Goals as goal
-
-pub returns-in_err-boot-clause-said : goal.returns-in_err-boot-clause-said
-returns-in_err-boot-clause-said g c =
-    passed_on (λ (s : Status). FirstOfBoot (g.F.Shelf.told c.args.shelf.now) c.args.boot.now s c.read_system.new.said.items) c.from_residual.result c.in_err-boot.field-0.0 c.from_residual.ensures c.in_err-boot.ensures.said
 
 pub returns-in-Err-clause-shelf : goal.returns-in-Err-clause-shelf
 returns-in-Err-clause-shelf g c = all_read (Alone input.Boot c.args.boot.now) _ _ c.in_ok-boot.ensures.shelf (λ i e. cc)

@@ -4,8 +4,6 @@ use Rattle.dm_words.proofs.Ranges.{asked_fits}
 use Rattle.dm_words.specs.Words.{IsTaken}
 use Rattle.dm_program.proofs.ByRule.{program_lacks}
 use Rattle.dm_program.proofs.NoWords.{no_words}
-use Rattle.dm_commands.proofs.Saying.{silent_lack}
-use Rattle.dm_commands.specs.Firsts.{SaysFirst}
 use Rattle.dm_commands.specs.Outside.{around, shelf_around, sink_around}
 use Rattle.dm_program.specs.Program.{ProgramMeets}
 use Rattle.dm_program.proofs.entry.run_given.Goals as goal
@@ -20,17 +18,6 @@ pub returns-in-Err-texts-clause-meets : goal.returns-in-Err-texts-clause-meets
 returns-in-Err-texts-clause-meets g c =
     let nothing : (name : List ℕ) → g.F.Shelf.asked c.args.shelf.now name c.args.shelf.now = λ name. search rules in
     rw c.in-Ok.is (program_lacks (request_of (map string_bytes c.in-Ok.words.items)) _ _ c.in-Err-texts.no (asked_fits (map string_bytes c.in-Ok.words.items)) (record { unread = refl; unwritten = refl; no_world = refl }) nothing)
-
-pub returns-in-Ok-texts-clause-said : goal.returns-in-Ok-texts-clause-said
-returns-in-Ok-texts-clause-said g c =
-    let e : map (λ w. w.now) c.as_slice-in-Ok-texts.result.now ≡ map string_bytes c.in-Ok.words.items = search rules in
-    rw c.in-Ok.is (subst (λ (w : List (List ℕ)). SaysFirst (request_of w) (g.F.Shelf.told c.args.shelf.now) c.run_program.result c.run_program.new.said.items) e c.run_program.ensures.said)
-
-pub returns-in-Err-texts-clause-said : goal.returns-in-Err-texts-clause-said
-returns-in-Err-texts-clause-said g c = rw c.in-Ok.is (silent_lack (request_of (map string_bytes c.in-Ok.words.items)) (g.F.Shelf.told c.args.shelf.now) c.in-Err-texts.no _ c.new.ensures.items)
-
-pub returns-in-Err-clause-said : goal.returns-in-Err-clause-said
-returns-in-Err-clause-said g c = rw c.in-Err.is c.new.ensures.items
 
 pub returns-in-Ok-texts-clause-refused : goal.returns-in-Ok-texts-clause-refused
 returns-in-Ok-texts-clause-refused g c =
