@@ -1,5 +1,5 @@
 -- What is said of a boot file that breaks a rule.
-use Rattle.std.specs.Prelude.{ℕ, ◌+◌, nat_lt, Bool, if◌then◌else◌, codes, List, [], ◌∷◌, ◌++◌, length, Option, None, Some, Result, Ok, Err}
+use Rattle.std.specs.Prelude.{ℕ, ◌+◌, nat_lt, Bool, if◌then◌else◌, codes, List, [], ◌∷◌, ◌++◌, length, Option, None, Some, option_map, unwrap_or, Result, Ok, Err}
 use Rattle.std.specs.List.{concat}
 use Rattle.std.specs.Fmt.{decimal}
 use Rattle.std.specs.Option.{is_some}
@@ -13,9 +13,9 @@ use Rattle.dm_reading.specs.Lines.{source_lines}
 use Rattle.dm_onekernel.specs.Boot.{slots_of}
 use Rattle.dm_boot.specs.declared.rules.BootRule.{BootRule}
 use Rattle.dm_boot.specs.declared.rules.BootRule.TheVariants.{Document, TopKeys, Settings, MachineCount, MachineKeys, MachineRoom, ImageCount, ImageKeys, ImageName, ImageBlocks, ImageText, ImageBytes, ProcessKeys, ProcessName, ProcessMachine, ProcessImage, ProcessRoom, LinkCount, LinkTarget, LinkLimits}
-use Rattle.dm_boot.specs.Build.{format_of, home_of, image_tables, is_control, link_tables, machine_tables, process_tables}
+use Rattle.dm_boot.specs.Build.{base_of, format_of, home_of, image_tables, is_control, len_of, link_tables, machine_tables, process_tables, program_of}
 use Rattle.dm_boot.specs.Rules.{has_target, is_limited, is_link, memory_size_of, rule_number}
-use Rattle.dm_boot.specs.Tables.{count, first_failing, text_at}
+use Rattle.dm_boot.specs.Tables.{count, first_failing, named, text_at}
 use Rattle.dm_boot.specs.Text.{is_boot_name, is_server_name}
 use Rattle.dm_explain.specs.declared.told.links.LinkRule.{LinkRule}
 use Rattle.dm_explain.specs.declared.told.links.LinkRule.TheVariants as link
@@ -89,6 +89,9 @@ rule_title rule = concat (codes "rule " ∷ decimal (rule_number rule) ∷ codes
 abbrev pub number_note : Last → List ℕ
 number_note last.Label = []
 number_note last.Nothing = []
+number_note last.Text = codes "    a text has printed bytes alone, without quotation marks and semicolons, and nothing stands behind it\n"
+number_note last.Multiple = codes "    a number has digits alone, or 0x and hexadecimal digits\n"
+number_note last.Call = codes "    a number has digits alone, or 0x and hexadecimal digits; a call is EXIT OUT MAKE COPY DROP SEND RECEIVE or MOVE\n"
 number_note (last.Number most) = codes "    a number has digits alone, or 0x and hexadecimal digits\n"
 number_note (last.Value most) = codes "    a number has digits alone, or 0x and hexadecimal digits\n"
 number_note last.Bytes = codes "    a number has digits alone, or 0x and hexadecimal digits\n"
@@ -117,7 +120,7 @@ fault_told t before first number line (Some why) = refusal_told t before first n
 unfoldable pub later_lines : Data → Option ℕ → ℕ → (List ℕ → Option Place) → ℕ → ℕ → List (List ℕ) → List ℕ
 later_lines t before first places number at [] = []
 later_lines t before first places number at (l ∷ ls) =
-    fault_told t before first number l (line_why places number at l) ++ later_lines t before first places (number + 1) (at + line_size l) ls
+    fault_told t before first number l (line_why places number at l) ++ later_lines t before first places (number + 1) (at + line_size at l) ls
 
 -- what is said behind the first line of an image's text that is refused, whose text stands in a file
 abbrev pub program_told : List ℕ → Data → List ℕ → Result (List ℕ) (ℕ × Why) → List ℕ
@@ -147,10 +150,31 @@ target_told l =
 abbrev pub area_told : Data → Data → List ℕ
 area_told d l = concat (codes "base and len are more than " ∷ decimal (memory_size_of d (text_at (codes "to") l)) ∷ codes " together, the bytes of the memory of " ∷ quoted (text_at (codes "to") l) ∷ [])
 
+-- the name of the image of the process with this name
+unfoldable pub image_name_of : Data → List ℕ → List ℕ
+image_name_of d name = unwrap_or (option_map (λ t. text_at (codes "image") t) (named name (process_tables d))) []
+
+-- the text at a key is no label of the image of the process to which a link leads
+abbrev pub no_line_told : List ℕ → Data → Data → List ℕ
+no_line_told key d l =
+    concat (key ∷ codes " = " ∷ quoted (text_at key l) ∷ codes ", and no line of image " ∷ quoted (image_name_of d (text_at (codes "to") l)) ∷ codes " has this label" ∷ [])
+
+-- the label where an area is to end isn't one, or stands before it begins
+abbrev pub end_told : Data → Data → List ℕ
+end_told d l =
+    if is_some (places_of (program_of d (text_at (codes "to") l)) (text_at (codes "len") l))
+    then concat (codes "len = " ∷ quoted (text_at (codes "len") l) ∷ codes ", and this label stands before base" ∷ [])
+    else no_line_told (codes "len") d l
+
+-- which label of an area isn't where it must be, or that the area isn't within the memory
+abbrev pub places_told : List ℕ → Data → Data → List ℕ
+places_told program d l =
+    if is_some (base_of program l) then (if is_some (len_of program l) then area_told d l else end_told d l) else no_line_told (codes "base") d l
+
 abbrev pub limits_told : Data → Data → List ℕ
 limits_told d l =
     if is_server_name (text_at (codes "to") l) then number_fault channel_limits (concat (codes "a link to a server has no code, base, len, read or write" ∷ [])) l
-    else number_fault link_limits (area_told d l) l
+    else number_fault link_limits (places_told (program_of d (text_at (codes "to") l)) d l) l
 
 -- the keys of a link, which may control if it has that key
 abbrev pub table_keys_told : Data → Option Data → List ℕ

@@ -12,7 +12,7 @@ ghost use Rattle.dm_explain.specs.Wanted.{limit_of, wish_of};
 
 use crate::part::{Part, put, put_parts};
 use crate::wanted::{Key, Range, Sort};
-use dm_boot::tables::{has_only, number_at};
+use dm_boot::tables::{has_only, has_text, number_at};
 use dm_memory::NoMemory;
 use toml::{Table, Value};
 
@@ -165,6 +165,7 @@ fn is_sort(sort: Sort, found: &Value) -> bool
         Sort::Text => found.is_str(),
         Sort::Truth => found.is_bool(),
         Sort::Array => found.is_array(),
+        Sort::Place => found.is_integer() || found.is_str(),
     }
 }
 
@@ -198,12 +199,13 @@ pub fn put_number_fault(
     put_parts(into, other)
 }
 
-/// Whether a number lies within its limits, or isn't there.
+/// Whether a number lies within its limits, or isn't there, or a text stands in its place.
 #[tactic(auto, unfolding(crate::specs::Faults::is_within))]
 fn is_within(range: &Range, table: &Value) -> bool
     ensures { result ≡ is_within (limit_of range.now) (view table.now) }
 {
-    number_at(table, range.name, range.most, range.least, range.most).is_some()
+    has_text(table, range.name)
+        || number_at(table, range.name, range.most, range.least, range.most).is_some()
 }
 
 /// Writes a number that is outside its limits.

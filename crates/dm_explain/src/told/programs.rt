@@ -120,8 +120,14 @@ fn number_note(last: Last) -> &'static str
     ensures { result.now ≡ number_note last }
 {
     match last {
-        Last::Number(_) | Last::Value(_) | Last::Bytes => {
+        Last::Number(_) | Last::Value(_) | Last::Multiple | Last::Bytes => {
             "    a number has digits alone, or 0x and hexadecimal digits\n"
+        }
+        Last::Text => {
+            "    a text has printed bytes alone, without quotation marks and semicolons, and nothing stands behind it\n"
+        }
+        Last::Call => {
+            "    a number has digits alone, or 0x and hexadecimal digits; a call is EXIT OUT MAKE COPY DROP SEND RECEIVE or MOVE\n"
         }
         Last::Label | Last::Nothing => "",
     }
@@ -148,7 +154,7 @@ fn put_later(
         let why = line_why(labels, number, at, line);
         put_fault(into, image, before, first, number, line, why)?;
         number += 1;
-        at += line_counted(line) as u128;
+        at += line_counted(at, line) as u128;
         rest = others;
     }
     Ok(())

@@ -88,7 +88,9 @@ fn missing_words(last: Last) -> &'static str
 {
     match last {
         Last::Label => "a label must stand where none stands",
-        Last::Number(_) | Last::Bytes => "a number must stand where none stands",
+        Last::Call => "a number or call must stand where none stands",
+        Last::Text => "a text in quotation marks must stand where none stands",
+        Last::Number(_) | Last::Multiple | Last::Bytes => "a number must stand where none stands",
         Last::Value(_) | Last::Nothing => "a number or label must stand where none stands",
     }
 }
@@ -168,9 +170,10 @@ fn put_range(into: &mut Vec<u8>, last: Last) -> Result<(), NoMemory>
     ensures { OnOk result (into.new.items ≡ into.old.items ++ last_range last) }
 {
     match last {
-        Last::Nothing => Ok(()),
+        Last::Nothing | Last::Text => Ok(()),
+        Last::Multiple => put(into, ", must be 1 to 65536"),
         Last::Number(most) | Last::Value(most) => put_most(into, u64::from(most)),
-        Last::Bytes => put(into, ", must be 0 to 255"),
+        Last::Bytes | Last::Call => put(into, ", must be 0 to 255"),
         Last::Label => put(
             into,
             ", must be -128 to 127 whole words from the next instruction",
@@ -201,7 +204,8 @@ fn put_due(into: &mut Vec<u8>, takes: Takes, there: u64) -> Result<(), NoMemory>
     match takes.last {
         Last::Nothing => put_counts(into, registers, there),
         Last::Bytes => put_no_byte(into, there),
-        Last::Number(_) | Last::Value(_) | Last::Label => put_counts(into, registers + 1, there),
+        Last::Number(_) | Last::Value(_) | Last::Label | Last::Call | Last::Multiple | Last::Text =>
+            put_counts(into, registers + 1, there),
     }
 }
 
