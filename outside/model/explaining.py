@@ -333,12 +333,25 @@ PLACES = {
 }
 
 
-def schedule_told(data, boot):
+def names_of(document):
+    """The names of a document's processes."""
+    return [process["name"] for process in document.get("process", [])]
+
+
+def first_told(data, boot, names):
+    """What is said of a refused schedule before the line of a status: the first line of what is said, and whose name stands there."""
+    told = schedule_told(data, boot, names)
+    return [line for line in told if line != SOME_DIGITS]
+
+
+def schedule_told(data, boot, names):
+    """What is said of a schedule for a system with processes of these names."""
     machines = len(boot.machines)
     try:
         directives = schedule_file.read_schedule(data, machines)
     except schedule_file.Refused as refused:
-        return bad_line_told(schedule_file.lines_of(data)[refused.line - 1], refused, machines)
+        line = schedule_file.lines_of(data)[refused.line - 1]
+        return bad_line_told(line, refused, machines) + name_told(line, refused, boot, names)
     counts = ", ".join(f"{word} {sum(one == word for one, _ in directives)}" for word in schedule_file.FORMS)
     return [f"schedule: {len(directives)} directives: {counts}"]
 
@@ -365,6 +378,24 @@ def bad_line_told(line, refused, machines):
     return [title + "a number is out of range, or no machine's" + said + which + PLACES[kind][1].format(last=machines - 1)]
 
 
+def name_told(line, refused, boot, names):
+    """Whose name stands where a process's number must, and which number that is."""
+    words = [word for word in line.replace(b"\t", b" ").split(b" ") if word]
+    wants_process = refused.why == 3 and words[0] in (b"migrate", b"calloff")
+    if not wants_process or is_number_of(words[1], len(boot.machines)):
+        return []
+    return [f"    {name} is {born.pid}" for name, born in zip(names, boot.processes) if name.encode() == words[1]]
+
+
+def is_number_of(word, machines):
+    """Whether a word is the number of a process."""
+    try:
+        operand_of("p", word, machines)
+    except schedule_file.Wrong:
+        return False
+    return True
+
+
 def operand_of(kind, word, machines):
     if kind == "p":
         return schedule_file.pid_of(word, machines)
@@ -388,5 +419,5 @@ def explain(data, schedule=None):
     try:
         schedule_file.read_schedule(lines, len(boot.machines))
     except schedule_file.Refused as refused:
-        return said + schedule_told(lines, boot), refused
-    return said + schedule_told(lines, boot), None
+        return said + schedule_told(lines, boot, names_of(document)), refused
+    return said + schedule_told(lines, boot, names_of(document)), None

@@ -23,7 +23,7 @@ import schedule as schedule_file
 from counting import Counts, quiet_line
 from drill import directives_of, drawn_boot, drill
 from ends import end_lines
-from explaining import explain, schedule_told
+from explaining import explain, first_told, names_of
 from looking import Enough, look
 from onekernel import Refused as LabelsRefused
 from onekernel import check_labels
@@ -88,12 +88,17 @@ def boot_of(options):
         raise Stop(6, str(refused), explain(data)[0][:1]) from None
 
 
+def names_in(options):
+    """The names of the processes of a boot file that breaks no rule."""
+    return names_of(boot_file.document_of(bytes_of(options["--boot"], LONGEST_BOOT, "boot")))
+
+
 def directives_in(options, boot):
     data = bytes_of(options["--schedule"], LONGEST, "schedule")
     try:
         return schedule_file.read_schedule(data, len(boot.machines))
     except schedule_file.Refused as refused:
-        raise Stop(7, str(refused), schedule_told(data, boot)[:1]) from None
+        raise Stop(7, str(refused), first_told(data, boot, names_in(options))) from None
 
 
 def do_run(words, write):

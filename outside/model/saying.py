@@ -4,7 +4,7 @@ HELP = "help: ./demosmp help, docs/FORMATS.md"
 FORMS = {
     "run": "run --boot FILE --schedule FILE",
     "check": "check --boot FILE (--trace FILE | --labels FILE)",
-    "chart": "chart --boot FILE --schedule FILE",
+    "chart": "chart --boot FILE --schedule FILE [--from G] [--to G]",
     "explain": "explain --boot FILE [--schedule FILE | --trace FILE]",
     "count": "count --boot FILE --schedule FILE",
     "look": "look --boot FILE --schedule FILE --at G",
@@ -14,16 +14,16 @@ FORMS = {
 OPTIONS = {
     "run": ["--boot", "--schedule"],
     "check": ["--boot", "--trace", "--labels"],
-    "chart": ["--boot", "--schedule"],
+    "chart": ["--boot", "--schedule", "--from", "--to"],
     "explain": ["--boot", "--schedule", "--trace"],
     "count": ["--boot", "--schedule"],
     "look": ["--boot", "--schedule", "--at"],
     "drill": ["--seed", "--lines", "--machines", "--boot", "--trace", "--schedule"],
 }
 FLAGS = {"drill": ["--trace", "--schedule"]}
-NEEDED = {name: options for name, options in OPTIONS.items()} | {"check": ["--boot"], "explain": ["--boot"], "drill": ["--seed", "--lines"]}
-VALUES = {"--at": "G", "--seed": "N", "--lines": "L", "--machines": "M"}
-RANGES = {"--at": (0, 2**32 - 1), "--seed": (0, 2**32 - 1), "--lines": (1, 10_000), "--machines": (2, 16)}
+NEEDED = {name: options for name, options in OPTIONS.items()} | {"check": ["--boot"], "chart": ["--boot", "--schedule"], "explain": ["--boot"], "drill": ["--seed", "--lines"]}
+VALUES = {"--at": "G", "--from": "G", "--to": "G", "--seed": "N", "--lines": "L", "--machines": "M"}
+RANGES = {"--at": (0, 2**32 - 1), "--from": (1, 2**32 - 1), "--to": (1, 2**32 - 1), "--seed": (0, 2**32 - 1), "--lines": (1, 10_000), "--machines": (2, 16)}
 
 
 def is_option(word):

@@ -2,7 +2,8 @@
 ghost use Rattle.std.specs.Prelude.{◌≡◌, [], ◌∷◌, ◌++◌, OnOk, false};
 ghost use Rattle.dm_chart.specs.Ahead.{first_ahead, is_restart};
 ghost use Rattle.dm_chart.specs.Behind.{waits_behind};
-ghost use Rattle.dm_chart.specs.Drawn.{all_drawn};
+ghost use Rattle.dm_chart.specs.Drawn.{all_drawn, draw_note, unless_over};
+ghost use Rattle.dm_chart.specs.Notes.{note_of};
 ghost use Rattle.dm_chart.specs.Shapes.{bar, comes_at, deliveries, fate_here, group_shapes, letter_shapes, life_shapes, line_shapes, moves_shown, own_shapes, sending_shapes, shapes_from, wait, wait_if};
 ghost use Rattle.dm_chart.specs.Spots.{first_spot};
 
@@ -48,9 +49,9 @@ pub fn put_lines(
     frame: &Frame,
     lines: &[Line],
 ) -> Result<(), NoMemory>
-    ensures { OnOk result (into.new.items ≡ into.old.items ++ all_drawn frame.now (shapes_from frame.now.rows lines.now [] first_spot lines.now)) }
+    ensures { OnOk result (into.new.items ≡ into.old.items ++ all_drawn frame.now (shapes_from frame.now.rows lines.now [] (first_spot frame.now.hidden) lines.now)) }
 {
-    let mut spot = first_spot();
+    let mut spot = first_spot(frame.hidden);
     for (i, line) in lines.iter().enumerate() {
         let page = Page {
             all: lines,
@@ -84,7 +85,24 @@ fn put_line(
         m: spot.machine,
         row: spot.row,
     };
-    put_note(into, &place, page.before, line)
+    put_row_note(into, &place, page.before, line)
+}
+
+/// Writes what is said of a line, unless it stands before the first row.
+fn put_row_note(
+    into: &mut Vec<u8>,
+    place: &Place<'_>,
+    before: &[Line],
+    line: &Line,
+) -> Result<(), NoMemory>
+    ensures { OnOk result (into.new.items ≡ into.old.items ++
+        unless_over place.now.row (draw_note place.now.frame.now place.now.m place.now.row (note_of before.now line.now))) }
+{
+    if place.row == 0 {
+        Ok(())
+    } else {
+        put_note(into, place, before, line)
+    }
 }
 
 /// Draws that a group begins, where this is its first row.

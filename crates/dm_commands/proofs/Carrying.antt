@@ -10,7 +10,8 @@ use Rattle.dm_run.specs.Notion.{Notion}
 use Rattle.dm_drill.proofs.Carried as drill
 use Rattle.dm_drill.specs.declared.report.Report.{Report}
 use Rattle.dm_drill.specs.declared.report.Report.TheVariants as report
-use Rattle.dm_commands.specs.Charts.{BeginsPicture, ChartSays, IsPicture, ShowsBegun, ShowsWhole}
+use Rattle.dm_commands.specs.Charts.{BeginsPicture, ChartSays, IsPicture, ShowsBegun, ShowsWhole, part_of}
+use Rattle.dm_chart.specs.declared.kept.Part.{Part}
 use Rattle.dm_commands.specs.Checks.{CheckMeets, CheckSaying, CheckSays, IsGoodTrace, RefusesTrace, TraceMeans}
 use Rattle.dm_commands.specs.Commands.{CommandMeets, Terms}
 use Rattle.dm_commands.specs.Drills.{CountSays, CountedSays, report_of}
@@ -38,23 +39,23 @@ run_said r q b ds before after world (Worn from to) c h = carried_run_wears r q 
 run_said r q b ds before after world (TraceRefused line why) c h = absurd h
 run_said r q b ds before after world (LabelsRefused line) c h = absurd h
 
-picture_said : (r q : Notion) (b : Boot) (ds : List Directive) (text : List ℕ) → Carries r q b ds → IsPicture r b ds text → IsPicture q b ds text
-picture_said r q b ds text c (inl whole) = inl (carried_picture r q b ds text c whole)
-picture_said r q b ds text c (inr worn) = inr (worn.0, worn.1, carried_before_worn r q b ds text worn.0 worn.1 c worn.2)
+picture_said : (part : Part) (r q : Notion) (b : Boot) (ds : List Directive) (text : List ℕ) → Carries r q b ds → IsPicture part r b ds text → IsPicture part q b ds text
+picture_said part r q b ds text c (inl whole) = inl (carried_picture part r q b ds text c whole)
+picture_said part r q b ds text c (inr worn) = inr (worn.0, worn.1, carried_before_worn part r q b ds text worn.0 worn.1 c worn.2)
 
 -- the picture of one
-chart_said : (r q : Notion) (b : Boot) (ds : List Directive) (before after : Option (List ℕ)) (world : Option World) (s : Status) → Carries r q b ds → ChartSays r b ds before after world s → ChartSays q b ds before after world s
-chart_said r q b ds before after world Done c h = record { text = h.text; is = carried_picture r q b ds h.text c h.is; written = h.written }
-chart_said r q b ds before after world Usage c h = absurd h
-chart_said r q b ds before after world (ReadFault i) c h = absurd h
-chart_said r q b ds before after world (NoMemory lack) c h = h
-chart_said r q b ds before after world WriteFault c h = record { text = h.text; is = picture_said r q b ds h.text c h.is; begun = h.begun }
-chart_said r q b ds before after world (BootRefused number place) c h = absurd h
-chart_said r q b ds before after world (ScheduleRefused line why) c h = absurd h
-chart_said r q b ds before after world (TooLong i) c h = absurd h
-chart_said r q b ds before after world (Worn from to) c h = record { text = h.text; is = carried_before_worn r q b ds h.text from to c h.is; written = h.written }
-chart_said r q b ds before after world (TraceRefused line why) c h = absurd h
-chart_said r q b ds before after world (LabelsRefused line) c h = absurd h
+chart_said : (part : Part) (r q : Notion) (b : Boot) (ds : List Directive) (before after : Option (List ℕ)) (world : Option World) (s : Status) → Carries r q b ds → ChartSays part r b ds before after world s → ChartSays part q b ds before after world s
+chart_said part r q b ds before after world Done c h = record { text = h.text; is = carried_picture part r q b ds h.text c h.is; written = h.written }
+chart_said part r q b ds before after world Usage c h = absurd h
+chart_said part r q b ds before after world (ReadFault i) c h = absurd h
+chart_said part r q b ds before after world (NoMemory lack) c h = h
+chart_said part r q b ds before after world WriteFault c h = record { text = h.text; is = picture_said part r q b ds h.text c h.is; begun = h.begun }
+chart_said part r q b ds before after world (BootRefused number place) c h = absurd h
+chart_said part r q b ds before after world (ScheduleRefused line why) c h = absurd h
+chart_said part r q b ds before after world (TooLong i) c h = absurd h
+chart_said part r q b ds before after world (Worn from to) c h = record { text = h.text; is = carried_before_worn part r q b ds h.text from to c h.is; written = h.written }
+chart_said part r q b ds before after world (TraceRefused line why) c h = absurd h
+chart_said part r q b ds before after world (LabelsRefused line) c h = absurd h
 
 -- a run that is counted, as a drill is
 counted_said : (r q : Notion) (tr : Bool) (k : Report) (b : Boot) (ds : List Directive) (before after : Option (List ℕ)) (world : Option World) (s : Status) → Carries r q b ds → CountedSays r tr k b ds before after world s → CountedSays q tr k b ds before after world s
@@ -195,8 +196,8 @@ carried t u None a world s c h = h
 carried t u (Some (Run boot schedule)) a world s c h = run_met (RunSays t.run) (RunSays u.run) boot schedule a world s (λ b ds before after valid each says. run_said t.run u.run b ds before after world s (c.runs b ds valid each) says) h
 carried t u (Some (Check boot trace)) a world s c h = check_met (CheckSays t.trace) (CheckSays u.trace) boot trace a world s (λ b bytes before after valid says. check_said t.trace u.trace b bytes before after s (c.traces b valid) says) h
 carried t u (Some (CheckLabels boot labels)) a world s c h = h
-carried t u (Some (Chart boot schedule)) a world s c h = record {
-  as_run = run_met (ChartSays t.run) (ChartSays u.run) boot schedule a world s (λ b ds before after valid each says. chart_said t.run u.run b ds before after world s (c.runs b ds valid each) says) h.as_run;
+carried t u (Some (Chart boot schedule first last)) a world s c h = record {
+  as_run = run_met (ChartSays (part_of first last) t.run) (ChartSays (part_of first last) u.run) boot schedule a world s (λ b ds before after valid each says. chart_said (part_of first last) t.run u.run b ds before after world s (c.runs b ds valid each) says) h.as_run;
   no_world = h.no_world;
 }
 carried t u (Some (Explain boot schedule)) a world s c h = h

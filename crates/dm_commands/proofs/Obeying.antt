@@ -22,7 +22,7 @@ use Rattle.dm_commands.specs.OwnDrills.{OwnSays}
 use Rattle.dm_commands.specs.Outside.{Around, SinkAround, Untouched}
 use Rattle.dm_run.specs.Notion.{Notion}
 use Rattle.dm_commands.specs.Runs.{RunMeets, RunSaying, RunSays}
-use Rattle.dm_commands.specs.Charts.{ChartSays}
+use Rattle.dm_commands.specs.Charts.{ChartSays, part_of}
 use Rattle.dm_words.proofs.Ranges.{Fits}
 
 -- want of memory says nothing of a drill
@@ -49,8 +49,8 @@ lacks_meets t (Some (Check boot trace)) a world lack quiet fits h nothing =
     checking.never_meets (CheckSays t.trace) boot trace a world (NoMemory lack) tt (unread (Both boot input.Trace trace) a.shelf (NoMemory lack) h.unread (asks_nothing (Both boot input.Trace trace) a.shelf h.unread nothing) (no_read lack)) h.unwritten h.no_world
 lacks_meets t (Some (CheckLabels boot labels)) a world lack quiet fits h nothing =
     labels_never boot labels a world (NoMemory lack) tt (unread (Both boot input.Labels labels) a.shelf (NoMemory lack) h.unread (asks_nothing (Both boot input.Labels labels) a.shelf h.unread nothing) (no_read lack)) h.unwritten h.no_world
-lacks_meets t (Some (Chart boot schedule)) a world lack quiet fits h nothing = record {
-  as_run = running.never_meets (ChartSays t.run) boot schedule a world (NoMemory lack) tt (unread (Both boot input.Schedule schedule) a.shelf (NoMemory lack) h.unread (asks_nothing (Both boot input.Schedule schedule) a.shelf h.unread nothing) (no_read lack)) h.unwritten h.no_world;
+lacks_meets t (Some (Chart boot schedule first last)) a world lack quiet fits h nothing = record {
+  as_run = running.never_meets (ChartSays (part_of first last) t.run) boot schedule a world (NoMemory lack) tt (unread (Both boot input.Schedule schedule) a.shelf (NoMemory lack) h.unread (asks_nothing (Both boot input.Schedule schedule) a.shelf h.unread nothing) (no_read lack)) h.unwritten h.no_world;
   no_world = h.no_world;
 }
 lacks_meets t (Some (Explain boot schedule)) a world lack quiet fits h nothing =
@@ -117,7 +117,7 @@ command_met t None a world s h = record {
 command_met t (Some (Run boot schedule)) a world s h = h.met
 command_met t (Some (Check boot trace)) a world s h = h.met
 command_met t (Some (CheckLabels boot labels)) a world s h = h.met
-command_met t (Some (Chart boot schedule)) a world s h = h.as_run.met
+command_met t (Some (Chart boot schedule first last)) a world s h = h.as_run.met
 command_met t (Some (Explain boot schedule)) a world s h = h.met
 command_met t (Some (Judge boot trace)) a world s h = h.met
 command_met t (Some (Count boot schedule)) a world s h = h.met

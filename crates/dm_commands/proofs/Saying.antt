@@ -11,6 +11,7 @@ use Rattle.dm_explain.specs.declared.explain.BootTold.TheVariants as boot_told
 use Rattle.dm_explain.specs.declared.explain.ScheduleTold.{ScheduleTold}
 use Rattle.dm_explain.specs.declared.explain.ScheduleTold.TheVariants as schedule_told
 use Rattle.dm_commands.proofs.Outcomes.{Files}
+use Rattle.dm_commands.specs.Inputs.{SaysFile}
 use Rattle.dm_commands.specs.Firsts.{FirstOfBoot, FirstOfFiles, FirstOfSchedule, SaysFirst, boot_text, schedule_text}
 
 -- the rule and the place of a refusal
@@ -46,25 +47,28 @@ boot_first files boot schedule old new (TraceRefused line why) said none h = h
 boot_first files boot schedule old new (LabelsRefused line) said none h = h
 
 -- it says a system, and the schedule is at fault
-schedule_at : (files : Option Files) (boot schedule : List ℕ) (b : Boot) (old new : ℕ) (s : Status) (said : List ℕ) → SaysBoot files boot b → NoDirectives files schedule (length b.machines) old new s → FirstOfSchedule files schedule (length b.machines) s said → FirstOfFiles files boot schedule s said
-schedule_at files boot schedule b old new Done said says none h = h
-schedule_at files boot schedule b old new Usage said says none h = h
-schedule_at files boot schedule b old new (ReadFault i) said says none h = h
-schedule_at files boot schedule b old new (NoMemory lack) said says none h = h
-schedule_at files boot schedule b old new WriteFault said says none h = h
-schedule_at files boot schedule b old new (BootRefused number place) said says none h = absurd none
-schedule_at files boot schedule b old new (ScheduleRefused line why) said says none h = record { b = b; says = says; holds = h }
-schedule_at files boot schedule b old new (TooLong i) said says none h = h
-schedule_at files boot schedule b old new (Worn from to) said says none h = h
-schedule_at files boot schedule b old new (TraceRefused line why) said says none h = h
-schedule_at files boot schedule b old new (LabelsRefused line) said says none h = h
+schedule_at : (files : Option Files) (boot schedule file : List ℕ) (b : Boot) (old new : ℕ) (s : Status) (said : List ℕ) → SaysFile files boot file b → NoDirectives files schedule (length b.machines) old new s → FirstOfSchedule files schedule file b s said → FirstOfFiles files boot schedule s said
+schedule_at files boot schedule file b old new Done said says none h = h
+schedule_at files boot schedule file b old new Usage said says none h = h
+schedule_at files boot schedule file b old new (ReadFault i) said says none h = h
+schedule_at files boot schedule file b old new (NoMemory lack) said says none h = h
+schedule_at files boot schedule file b old new WriteFault said says none h = h
+schedule_at files boot schedule file b old new (BootRefused number place) said says none h = absurd none
+schedule_at files boot schedule file b old new (ScheduleRefused line why) said says none h = record { file = file; system = b; says = says; told = h }
+schedule_at files boot schedule file b old new (TooLong i) said says none h = h
+schedule_at files boot schedule file b old new (Worn from to) said says none h = h
+schedule_at files boot schedule file b old new (TraceRefused line why) said says none h = h
+schedule_at files boot schedule file b old new (LabelsRefused line) said says none h = h
 
-pub schedule_first : (files between : Option Files) (boot schedule : List ℕ) (b : Boot) (machines old new : ℕ) (s : Status) (said : List ℕ) → SaysBoot files boot b → between ≡ files → machines ≡ length b.machines
-    → NoDirectives between schedule machines old new s → FirstOfSchedule between schedule machines s said → FirstOfFiles files boot schedule s said
-schedule_first files between boot schedule b machines old new s said says same count none h =
-    schedule_at files boot schedule b old new s said says
-    (subst (λ (n : ℕ). NoDirectives files schedule n old new s) count (subst (λ (f : Option Files). NoDirectives f schedule machines old new s) same none))
-    (subst (λ (n : ℕ). FirstOfSchedule files schedule n s said) count (subst (λ (f : Option Files). FirstOfSchedule f schedule machines s said) same h))
+pub schedule_first : (files between : Option Files) (boot schedule file : List ℕ) (b : Boot) (old new : ℕ) (s : Status) (said : List ℕ) → SaysFile files boot file b → between ≡ files
+    → NoDirectives between schedule (length b.machines) old new s → FirstOfSchedule between schedule file b s said → FirstOfFiles files boot schedule s said
+schedule_first files between boot schedule file b old new s said says same none h =
+    schedule_at files boot schedule file b old new s said says
+    (subst (λ (f : Option Files). NoDirectives f schedule (length b.machines) old new s) same none) (subst (λ (f : Option Files). FirstOfSchedule f schedule file b s said) same h)
+
+-- the file that says a system, whichever bytes it has
+pub some_file : (files : Option Files) (boot file : List ℕ) (b : Boot) → SaysFile files boot file b → SaysBoot files boot b
+some_file files boot file b h = record { bytes = file; file = h.file; says = h.says }
 
 -- nothing is said with a status of which something holds that holds of no refused file
 pub silent_boot : (Holds : Status → Type 0) (files : Option Files) (boot : List ℕ) (s : Status) (said : List ℕ) → ((number place : ℕ) → Holds (BootRefused number place) → ⊥) → Holds s → said ≡ [] → FirstOfBoot files boot s said
@@ -98,7 +102,7 @@ silent_first Holds None files s said no_boot no_schedule h e = e
 silent_first Holds (Some (Run boot schedule)) files s said no_boot no_schedule h e = silent_files Holds files boot schedule s said no_boot no_schedule h e
 silent_first Holds (Some (Check boot trace)) files s said no_boot no_schedule h e = silent_boot Holds files boot s said no_boot h e
 silent_first Holds (Some (CheckLabels boot labels)) files s said no_boot no_schedule h e = silent_boot Holds files boot s said no_boot h e
-silent_first Holds (Some (Chart boot schedule)) files s said no_boot no_schedule h e = silent_files Holds files boot schedule s said no_boot no_schedule h e
+silent_first Holds (Some (Chart boot schedule first last)) files s said no_boot no_schedule h e = silent_files Holds files boot schedule s said no_boot no_schedule h e
 silent_first Holds (Some (Explain boot schedule)) files s said no_boot no_schedule h e = e
 silent_first Holds (Some (Judge boot trace)) files s said no_boot no_schedule h e = e
 silent_first Holds (Some (Count boot schedule)) files s said no_boot no_schedule h e = silent_files Holds files boot schedule s said no_boot no_schedule h e

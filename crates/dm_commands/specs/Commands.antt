@@ -13,7 +13,7 @@ use Rattle.dm_words.specs.DrillWords.{IsWithin}
 use Rattle.dm_words.specs.Request.{Request, Chart, Check, Count, Drill, Explain, Judge, OwnDrill, Run, Look, CheckLabels}
 use Rattle.dm_draw.specs.declared.drill.Drill.{Drill as TheDrill}
 use Rattle.dm_commands.specs.Asked.{Alone, Both, Named, Nothing, perhaps_both}
-use Rattle.dm_commands.specs.Charts.{ChartMeets, ChartSays}
+use Rattle.dm_commands.specs.Charts.{ChartMeets, ChartSays, part_of}
 use Rattle.dm_commands.specs.Checks.{CheckMeets, CheckSays, TraceMeans}
 use Rattle.dm_commands.specs.Drills.{CountSays, DrillMeets, DrilledSays}
 use Rattle.dm_commands.specs.Explains.{ExplainMeets}
@@ -49,7 +49,7 @@ CommandMeets t None a world s = RefusesWords a world s
 CommandMeets t (Some (Run boot schedule)) a world s = RunMeets (RunSays t.run) boot schedule a world s
 CommandMeets t (Some (Check boot trace)) a world s = CheckMeets (CheckSays t.trace) boot trace a world s
 CommandMeets t (Some (CheckLabels boot labels)) a world s = LabelsMeet boot labels a world s
-CommandMeets t (Some (Chart boot schedule)) a world s = ChartMeets (ChartSays t.run) boot schedule a world s
+CommandMeets t (Some (Chart boot schedule first last)) a world s = ChartMeets (ChartSays (part_of first last) t.run) boot schedule a world s
 CommandMeets t (Some (Explain boot schedule)) a world s = ExplainMeets boot schedule a world s
 CommandMeets t (Some (Judge boot trace)) a world s = JudgeMeets t.trace boot trace a world s
 CommandMeets t (Some (Count boot schedule)) a world s = RunMeets (CountSays t.run) boot schedule a world s
@@ -63,7 +63,7 @@ named_in None = Nothing
 named_in (Some (Run boot schedule)) = Both boot input.Schedule schedule
 named_in (Some (Check boot trace)) = Both boot input.Trace trace
 named_in (Some (CheckLabels boot labels)) = Both boot input.Labels labels
-named_in (Some (Chart boot schedule)) = Both boot input.Schedule schedule
+named_in (Some (Chart boot schedule first last)) = Both boot input.Schedule schedule
 named_in (Some (Explain boot schedule)) = perhaps_both boot schedule
 named_in (Some (Judge boot trace)) = Both boot input.Trace trace
 named_in (Some (Count boot schedule)) = Both boot input.Schedule schedule

@@ -7,7 +7,7 @@ ghost use Rattle.dm_commands.specs.Firsts.{SaysFirst};
 ghost use Rattle.dm_commands.specs.Outside.{around, shelf_around, sink_around};
 ghost use Rattle.dm_commands.specs.Says.{of_world};
 
-use crate::chart::chart_files;
+use crate::chart::{chart_files, part_of};
 use crate::check::check_files;
 use crate::count::count_files;
 use crate::drill::drill;
@@ -50,9 +50,17 @@ pub fn do_words<F: Shelf, K: Sink>(
         Ok(Request::CheckLabels { boot, labels }) => {
             check_label_files(alloc, boot, labels, shelf, out, said)
         }
-        Ok(Request::Chart { boot, schedule }) => chart_files(
-            alloc, boot, schedule, shelf, out, said,
-        ),
+        Ok(
+            Request::Chart {
+                boot,
+                schedule,
+                first,
+                last,
+            },
+        ) => {
+            let part = part_of(first, last);
+            chart_files(alloc, boot, schedule, part, shelf, out, said)
+        }
         Ok(Request::Explain { boot, schedule }) => {
             explain_files(alloc, boot, schedule, shelf, out)
         }

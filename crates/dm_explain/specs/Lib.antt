@@ -10,4 +10,5 @@ pub mod System
 pub mod SystemParts
 pub mod BadOperands
 pub mod Schedules
+pub mod Naming
 pub mod Explained

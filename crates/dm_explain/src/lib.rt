@@ -4,6 +4,7 @@
 pub mod explain;
 mod faults;
 mod line;
+mod naming;
 mod part;
 mod program;
 mod schedule;
@@ -15,3 +16,4 @@ mod wanted;
 mod wrong;
 
 pub use explain::{BootTold, ScheduleTold, explain_boot, explain_schedule};
+pub use naming::explain_name;

@@ -13,7 +13,8 @@ use Rattle.dm_checklaws.specs.Verdict.{verdict}
 use Rattle.dm_check.specs.declared.fault.TraceFault.{TraceFault}
 use Rattle.dm_commands.proofs.CheckOutcomes as checking
 use Rattle.dm_commands.proofs.Outcomes.{Files, only_want, same_boot, same_inputs, some_one}
-use Rattle.dm_commands.specs.Charts.{ChartSays}
+use Rattle.dm_commands.specs.Charts.{ChartSays, part_of}
+use Rattle.dm_chart.specs.declared.kept.Part.{Part}
 use Rattle.dm_commands.specs.Checks.{CheckSays, SaysCheck, good_line}
 use Rattle.dm_commands.specs.Commands.{CommandMeets}
 use Rattle.dm_commands.specs.Drills.{CountSays, CountedSays, DrilledSays, report_of}
@@ -85,8 +86,8 @@ run_tells b ds before after world = record {
   labels = λ line h. h;
 }
 
-chart_tells : (b : Boot) (ds : List Directive) (before after : Option (List ℕ)) (world : Option World) → Tells (ChartSays by_rule b ds before after world) b ds
-chart_tells b ds before after world = record {
+chart_tells : (part : Part) (b : Boot) (ds : List Directive) (before after : Option (List ℕ)) (world : Option World) → Tells (ChartSays part by_rule b ds before after world) b ds
+chart_tells part b ds before after world = record {
   done = λ h. h.is.rests.lasts;
   worn = λ from to h. (h.is.groups, wears_after b ds h.is.groups from to h.is.wears);
   usage = λ h. h;
@@ -264,7 +265,7 @@ decided None a world s h = tt
 decided (Some (Run boot schedule)) a world s h = run_decided (RunSays by_rule) boot schedule (outside a world) s (λ b ds. run_tells b ds _ _ world) h.says h.met.sink.blames
 decided (Some (Check boot trace)) a world s h = check_decided boot trace (outside a world) s h.says h.met.sink.blames
 decided (Some (CheckLabels boot labels)) a world s h = labels_decided boot labels (outside a world) s h.says h.met.sink.blames
-decided (Some (Chart boot schedule)) a world s h = run_decided (ChartSays by_rule) boot schedule (outside a world) s (λ b ds. chart_tells b ds _ _ world) h.as_run.says h.as_run.met.sink.blames
+decided (Some (Chart boot schedule first last)) a world s h = run_decided (ChartSays (part_of first last) by_rule) boot schedule (outside a world) s (λ b ds. chart_tells (part_of first last) b ds _ _ world) h.as_run.says h.as_run.met.sink.blames
 decided (Some (Explain boot schedule)) a world s h = tt
 decided (Some (Judge boot trace)) a world s h = tt
 decided (Some (Count boot schedule)) a world s h = run_decided (CountSays by_rule) boot schedule (outside a world) s (λ b ds. counted_tells false report.OfRun b ds _ _ world) h.says h.met.sink.blames

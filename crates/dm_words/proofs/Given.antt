@@ -9,6 +9,7 @@ use Rattle.dm_words.proofs.Names.{bundle_step_fault, check_fault, defaults_fault
 use Rattle.dm_words.proofs.Names.{step_fault, stray_fault, use_fault, walk_fault, word_fault, Shape, argument_words, built, entered, label_of, labels_of, rows_at, ValueSource, DefaultValue, CommandLine, Reading, drill_by, has_system, lines_asked, own_by, run_by, schedule_of, shows_by}
 use Rattle.dm_words.proofs.Names.{machines_asked, seed_of, trace_of, explaining, both_files, Request, Chart, Check, Count, Explain, Judge, Run, run_command, AreTaken, IsTaken, demosmp, request_at, request_of, Some, Drill, OwnDrill, groups_of, looking, Look, CheckLabels, checking, is_just_one}
 use Rattle.dm_draw.specs.declared.drill.Shows.TheVariants as shows
+use Rattle.dm_words.specs.ChartWords.{charting, group_in, takes_chart}
 use Rattle.clap.specs.Walk.{Text}
 use Rattle.clap.specs.Kinds.{Kinds}
 use Rattle.clap.specs.Faults.{fault_of}
@@ -393,10 +394,18 @@ check_asks words e values =
     let there = check_there named.0 trace labels values in
     (there.0, ap (λ (o : Option Text). checking o trace labels) named.1 ∙ there.1)
 
+charts : (boot schedule : Text) (taken : Bool) (first last : Option ℕ) → taken ≡ true → (r : Request) × (charting (Some boot) (Some schedule) taken first last ≡ Some r)
+charts boot schedule true first last e = (Chart boot schedule first last, refl)
+charts boot schedule false first last e = cc
+
 chart_asks : Asks chart_built
 chart_asks words e values =
+    let rows : List Row = matched chart_built words in
+    let first : Option ℕ = option_and_then group_in (first_of (codes "from") rows) in
+    let last : Option ℕ = option_and_then group_in (first_of (codes "to") rows) in
     let names = names_both chart_built (codes "boot") (codes "schedule") words each_of_chart (λ rows. refl) e in
-    (Chart names.first.0 names.second.0, ap₂ (both_files (λ boot schedule. Chart boot schedule)) names.first.1 names.second.1)
+    let asked = charts names.first.0 names.second.0 (takes_chart rows) first last values in
+    (asked.0, ap₂ (λ x y. charting x y (takes_chart rows) first last) names.first.1 names.second.1 ∙ asked.1)
 
 -- a boot file is named, and no schedule and trace together
 explain_there : (boot : Text) (schedule trace : Option Text) → not (is_some schedule && is_some trace) ≡ true → (r : Request) × (explaining (Some boot) schedule trace ≡ Some r)

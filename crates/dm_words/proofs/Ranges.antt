@@ -7,7 +7,7 @@ use Rattle.clap.specs.Walk.{Row, first_of, is_empty}
 use Rattle.clap.specs.Simple.{subcommand_of}
 use Rattle.clap.specs.Faults.{fault_of}
 use Rattle.dm_text.specs.Reading.{read_u32, read_u8}
-use Rattle.dm_words.specs.ChartWords.{chart_request}
+use Rattle.dm_words.specs.ChartWords.{chart_request, charting, group_in, takes_chart}
 use Rattle.dm_words.specs.CheckWords.{check_request, checking}
 use Rattle.dm_words.specs.CountWords.{count_request}
 use Rattle.dm_words.specs.DrillWords.{IsWithin, OwnIsWithin, drawn_by, drill_by, drill_request, if_within, lines_asked, machines_asked, own_by, run_by, schedule_of, seed_of, shows_by, trace_of}
@@ -25,7 +25,7 @@ Fits None = ⊤
 Fits (Some (Run boot schedule)) = ⊤
 Fits (Some (Check boot trace)) = ⊤
 Fits (Some (CheckLabels boot labels)) = ⊤
-Fits (Some (Chart boot schedule)) = ⊤
+Fits (Some (Chart boot schedule first last)) = ⊤
 Fits (Some (Explain boot schedule)) = ⊤
 Fits (Some (Judge boot trace)) = ⊤
 Fits (Some (Count boot schedule)) = ⊤
@@ -98,8 +98,15 @@ run_fits rows = both_fit (λ boot schedule. Run boot schedule) (first_of (codes 
 check_fits : (rows : List Row) → Fits (check_request rows)
 check_fits rows = checking_fits (first_of (codes "boot") rows) (first_of (codes "trace") rows) (first_of (codes "labels") rows)
 
+charting_fits : (boot schedule : Option (List ℕ)) (taken : Bool) (first last : Option ℕ) → Fits (charting boot schedule taken first last)
+charting_fits (Some boot) (Some schedule) true first last = tt
+charting_fits (Some boot) (Some schedule) false first last = tt
+charting_fits (Some boot) None taken first last = tt
+charting_fits None schedule taken first last = tt
+
 chart_fits : (rows : List Row) → Fits (chart_request rows)
-chart_fits rows = both_fit (λ boot schedule. Chart boot schedule) (first_of (codes "boot") rows) (first_of (codes "schedule") rows) (λ x y. tt)
+chart_fits rows =
+    charting_fits (first_of (codes "boot") rows) (first_of (codes "schedule") rows) (takes_chart rows) (option_and_then group_in (first_of (codes "from") rows)) (option_and_then group_in (first_of (codes "to") rows))
 
 count_fits : (rows : List Row) → Fits (count_request rows)
 count_fits rows = both_fit (λ boot schedule. Count boot schedule) (first_of (codes "boot") rows) (first_of (codes "schedule") rows) (λ x y. tt)

@@ -12,8 +12,9 @@ pub data Request : Type 0 where
   Check : (boot : List ℕ) → (trace : List ℕ) → Request
   -- to check that the labels of the second name are steps of one kernel without machines, from the boot file of the first on
   CheckLabels : (boot : List ℕ) → (labels : List ℕ) → Request
-  -- to draw the run of the schedule of the second name on the system of the boot file of the first
-  Chart : (boot : List ℕ) → (schedule : List ℕ) → Request
+  -- to draw the run of the schedule of the second name on the system of the boot file of the first: the groups from a number to a
+  -- number, where these are there
+  Chart : (boot : List ℕ) → (schedule : List ℕ) → (first last : Option ℕ) → Request
   -- to say what the boot file of the first name says, and the schedule of the second where there is one, or what is wrong
   Explain : (boot : List ℕ) → (schedule : Option (List ℕ)) → Request
   -- to check that trace too, and to say what was due where it isn't so

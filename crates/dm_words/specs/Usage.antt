@@ -13,6 +13,7 @@ use Rattle.dm_words.specs.declared.usage.Fault.{Fault}
 use Rattle.dm_words.specs.declared.usage.Said.{Said}
 use Rattle.dm_words.specs.declared.usage.Outcome.{Outcome}
 use Rattle.dm_words.specs.declared.usage.Outcome.TheVariants as the
+use Rattle.dm_words.specs.ChartWords.{group_in}
 use Rattle.dm_words.specs.DrillWords.{lines_in, machines_in, seed_in}
 
 -- all commands, and the word of each
@@ -38,6 +39,8 @@ option_word option.Schedule = codes "--schedule"
 option_word option.Trace = codes "--trace"
 option_word option.Labels = codes "--labels"
 option_word option.At = codes "--at"
+option_word option.From = codes "--from"
+option_word option.To = codes "--to"
 option_word option.Seed = codes "--seed"
 option_word option.Lines = codes "--lines"
 option_word option.Machines = codes "--machines"
@@ -51,6 +54,8 @@ value_word option.Schedule = codes " FILE"
 value_word option.Trace = codes " FILE"
 value_word option.Labels = codes " FILE"
 value_word option.At = codes " G"
+value_word option.From = codes " G"
+value_word option.To = codes " G"
 value_word option.Seed = codes " N"
 value_word option.Lines = codes " L"
 value_word option.Machines = codes " M"
@@ -63,6 +68,8 @@ takes_value option.Schedule = true
 takes_value option.Trace = true
 takes_value option.Labels = true
 takes_value option.At = true
+takes_value option.From = true
+takes_value option.To = true
 takes_value option.Seed = true
 takes_value option.Lines = true
 takes_value option.Machines = true
@@ -76,6 +83,8 @@ range_words option.Schedule = []
 range_words option.Trace = []
 range_words option.Labels = []
 range_words option.At = codes ": 0 to 4294967295"
+range_words option.From = codes ": 1 to 4294967295"
+range_words option.To = codes ": 1 to 4294967295"
 range_words option.Seed = codes ": 0 to 4294967295"
 range_words option.Lines = codes ": 1 to 10000"
 range_words option.Machines = codes ": 2 to 16"
@@ -88,6 +97,8 @@ can_be option.Schedule v = true
 can_be option.Trace v = true
 can_be option.Labels v = true
 can_be option.At v = is_some (read_u32 v)
+can_be option.From v = is_some (group_in v)
+can_be option.To v = is_some (group_in v)
 can_be option.Seed v = is_some (seed_in v)
 can_be option.Lines v = is_some (lines_in v)
 can_be option.Machines v = is_some (machines_in v)
@@ -98,7 +109,7 @@ can_be option.WithSchedule v = true
 abbrev pub options_of : Form → List OptionName
 options_of form.Run = option.Boot ∷ option.Schedule ∷ []
 options_of form.Check = option.Boot ∷ option.Trace ∷ option.Labels ∷ []
-options_of form.Chart = option.Boot ∷ option.Schedule ∷ []
+options_of form.Chart = option.Boot ∷ option.Schedule ∷ option.From ∷ option.To ∷ []
 options_of form.Explain = option.Boot ∷ option.Schedule ∷ option.Trace ∷ []
 options_of form.Count = option.Boot ∷ option.Schedule ∷ []
 options_of form.Look = option.Boot ∷ option.Schedule ∷ option.At ∷ []
@@ -117,7 +128,7 @@ needed_of form.Drill = option.Seed ∷ option.Lines ∷ []
 abbrev pub form_lines : Form → List ℕ
 form_lines form.Run = codes "\nform: demosmp run --boot FILE --schedule FILE\nhelp: ./demosmp help, docs/FORMATS.md\n"
 form_lines form.Check = codes "\nform: demosmp check --boot FILE (--trace FILE | --labels FILE)\nhelp: ./demosmp help, docs/FORMATS.md\n"
-form_lines form.Chart = codes "\nform: demosmp chart --boot FILE --schedule FILE\nhelp: ./demosmp help, docs/FORMATS.md\n"
+form_lines form.Chart = codes "\nform: demosmp chart --boot FILE --schedule FILE [--from G] [--to G]\nhelp: ./demosmp help, docs/FORMATS.md\n"
 form_lines form.Explain = codes "\nform: demosmp explain --boot FILE [--schedule FILE | --trace FILE]\nhelp: ./demosmp help, docs/FORMATS.md\n"
 form_lines form.Count = codes "\nform: demosmp count --boot FILE --schedule FILE\nhelp: ./demosmp help, docs/FORMATS.md\n"
 form_lines form.Look = codes "\nform: demosmp look --boot FILE --schedule FILE --at G\nhelp: ./demosmp help, docs/FORMATS.md\n"

@@ -4,6 +4,7 @@ ghost use Rattle.std.specs.Prelude.{◌≡◌, ◌∷◌, ◌<◌, [], IfNone, I
 ghost use Rattle.std.specs.List.{list_any, position};
 ghost use Rattle.dm_words.specs.Usage.{absent, absent_told, attached, bad, bad_told, bad_value, behind_name, can_be, check_clash, clash, clash_told, command_lines, command_told, drill_clash, due_words, explain_clash, flags_clash, form_lines, form_named, form_word, front, has_zero, is_bad, is_dashed, is_equals, is_named, met, met_by, names, needed_of, option_named, option_word, options_of, pieces_of, pieces_told, range_words, step, step_of, takes_value, told, usage_pieces, value_here, value_of, value_word, walk, wrong_told};
 
+use crate::chart::group_in;
 use crate::words::{lines_in, machines_in};
 use dm_shape::names::count;
 
@@ -38,6 +39,8 @@ pub enum OptionName {
     Trace,
     Labels,
     At,
+    From,
+    To,
     Seed,
     Lines,
     Machines,
@@ -101,7 +104,12 @@ impl Form {
         match self {
             Form::Run => &[OptionName::Boot, OptionName::Schedule],
             Form::Check => &[OptionName::Boot, OptionName::Trace, OptionName::Labels],
-            Form::Chart => &[OptionName::Boot, OptionName::Schedule],
+            Form::Chart => &[
+                OptionName::Boot,
+                OptionName::Schedule,
+                OptionName::From,
+                OptionName::To,
+            ],
             Form::Explain => &[OptionName::Boot, OptionName::Schedule, OptionName::Trace],
             Form::Count => &[OptionName::Boot, OptionName::Schedule],
             Form::Look => &[OptionName::Boot, OptionName::Schedule, OptionName::At],
@@ -143,7 +151,7 @@ impl Form {
                 b"\nform: demosmp check --boot FILE (--trace FILE | --labels FILE)\nhelp: ./demosmp help, docs/FORMATS.md\n"
             }
             Form::Chart => {
-                b"\nform: demosmp chart --boot FILE --schedule FILE\nhelp: ./demosmp help, docs/FORMATS.md\n"
+                b"\nform: demosmp chart --boot FILE --schedule FILE [--from G] [--to G]\nhelp: ./demosmp help, docs/FORMATS.md\n"
             }
             Form::Explain => {
                 b"\nform: demosmp explain --boot FILE [--schedule FILE | --trace FILE]\nhelp: ./demosmp help, docs/FORMATS.md\n"
@@ -172,6 +180,8 @@ impl OptionName {
             OptionName::Trace => b"--trace",
             OptionName::Labels => b"--labels",
             OptionName::At => b"--at",
+            OptionName::From => b"--from",
+            OptionName::To => b"--to",
             OptionName::Seed => b"--seed",
             OptionName::Lines => b"--lines",
             OptionName::Machines => b"--machines",
@@ -190,6 +200,8 @@ impl OptionName {
             OptionName::Trace => b" FILE",
             OptionName::Labels => b" FILE",
             OptionName::At => b" G",
+            OptionName::From => b" G",
+            OptionName::To => b" G",
             OptionName::Seed => b" N",
             OptionName::Lines => b" L",
             OptionName::Machines => b" M",
@@ -208,6 +220,8 @@ impl OptionName {
             OptionName::Trace => true,
             OptionName::Labels => true,
             OptionName::At => true,
+            OptionName::From => true,
+            OptionName::To => true,
             OptionName::Seed => true,
             OptionName::Lines => true,
             OptionName::Machines => true,
@@ -226,6 +240,8 @@ impl OptionName {
             OptionName::Trace => b"",
             OptionName::Labels => b"",
             OptionName::At => b": 0 to 4294967295",
+            OptionName::From => b": 1 to 4294967295",
+            OptionName::To => b": 1 to 4294967295",
             OptionName::Seed => b": 0 to 4294967295",
             OptionName::Lines => b": 1 to 10000",
             OptionName::Machines => b": 2 to 16",
@@ -245,6 +261,8 @@ impl OptionName {
             OptionName::Trace => true,
             OptionName::Labels => true,
             OptionName::At => count(value).is_some(),
+            OptionName::From => group_in(value).is_some(),
+            OptionName::To => group_in(value).is_some(),
             OptionName::Seed => count(value).is_some(),
             OptionName::Lines => lines_in(value).is_some(),
             OptionName::Machines => machines_in(value).is_some(),

@@ -67,7 +67,7 @@ returns-in-Ok-Chart-clause-said g c =
     subst (λ (r : Option Request). SaysFirst r (g.F.Shelf.told c.args.shelf.now) c.chart_files.result c.chart_files.new.said.items) (sym (c.in-Ok-Chart.ensures.asks ∙ ap (λ (r : TheRequest). Some (request_said r)) c.in-Ok-Chart.field-0-is)) c.chart_files.ensures.said
 
 pub returns-in-Ok-Chart-clause-refused : goal.returns-in-Ok-Chart-clause-refused
-returns-in-Ok-Chart-clause-refused g c = λ usage taken. run_taken (ChartSays by_world) _ _ _ _ c.chart_files.result (λ b ds before after w h. h) c.chart_files.ensures.meets.as_run usage
+returns-in-Ok-Chart-clause-refused g c = λ usage taken. run_taken (ChartSays _ by_world) _ _ _ _ c.chart_files.result (λ b ds before after w h. h) c.chart_files.ensures.meets.as_run usage
 
 pub returns-in-Ok-Explain-clause-meets : goal.returns-in-Ok-Explain-clause-meets
 returns-in-Ok-Explain-clause-meets g c =
