@@ -1,6 +1,6 @@
 -- What is said of files, and how the program ends that has said it.
 use Rattle.dm_commands.proofs.Names.{◌≡◌, ◌⊎◌, inl, inr, ℕ, List, length, refl, ap, sym, subst, ◌∙◌, Option, Some, TheNoMemory, Boot, Vec, Global, BootRule, rule_number, BootTold, RoseOrFull, Status, Done, Usage}
-use Rattle.dm_commands.proofs.Names.{ReadFault, NoMemory, WriteFault, BootRefused, ScheduleRefused, TooLong, Worn, TraceRefused, LabelsRefused, BeforeRun, NoInputs, SaysInputs, TellsFiles, TellsRead, TellsSchedule, ExplainsSystem}
+use Rattle.dm_commands.proofs.Names.{ReadFault, NoMemory, WriteFault, BootRefused, ScheduleRefused, TooLong, Worn, TraceRefused, LabelsRefused, NotFound, Undecided, BeforeRun, NoInputs, SaysInputs, TellsFiles, TellsRead, TellsSchedule, ExplainsSystem}
 use Rattle.dm_commands.proofs.Names.{Wrote, NoBoot, NoDirectives, NoFiles, SaysBoot, BlamesSink, Input, IsWant, None, World}
 use Rattle.dm_explain.specs.declared.explain.BootTold.TheVariants as told_as
 use Rattle.dm_ending.specs.declared.status.Input.TheVariants as input
@@ -60,6 +60,8 @@ before_run files boot schedule text old new (TooLong i) h = absurd h
 before_run files boot schedule text old new (Worn from to) h = absurd h
 before_run files boot schedule text old new (TraceRefused line why) h = absurd h
 before_run files boot schedule text old new (LabelsRefused line) h = absurd h
+before_run files boot schedule text old new NotFound h = absurd h
+before_run files boot schedule text old new Undecided h = absurd h
 
 pub as_run : (files : Option Files) (boot : List ℕ) (schedule : Option (List ℕ)) (text : List ℕ) (before after : Option (List ℕ)) (old new k k' : ℕ) (due s : Status) → TellsFiles files boot schedule due text → Wrote due text before after k k' s → (s ≡ WriteFault) ⊎ BeforeRun files boot schedule old new s
 as_run files boot schedule text before after old new k k' due s h w = elim w [
@@ -86,6 +88,8 @@ no_boot files boot old new (TooLong input.Labels) quiet some h = absurd h
 no_boot files boot old new (Worn from to) quiet some h = absurd h
 no_boot files boot old new (TraceRefused line why) quiet some h = absurd h
 no_boot files boot old new (LabelsRefused line) quiet some h = absurd h
+no_boot files boot old new NotFound quiet some h = absurd h
+no_boot files boot old new Undecided quiet some h = absurd h
 
 -- how a run of these files ends before it runs
 abbrev end_of : Files → List ℕ → Option (List ℕ) → Status
@@ -153,6 +157,8 @@ no_system files boot (Some schedule) old new (TooLong input.Labels) h = absurd h
 no_system files boot (Some schedule) old new (Worn from to) h = absurd h
 no_system files boot (Some schedule) old new (TraceRefused line why) h = absurd h
 no_system files boot (Some schedule) old new (LabelsRefused line) h = absurd h
+no_system files boot (Some schedule) old new NotFound h = absurd h
+no_system files boot (Some schedule) old new Undecided h = absurd h
 
 -- files were explained
 pub explains_meet : {F K : Type 0} (boot : List ℕ) (schedule : Option (List ℕ)) (a : Around F K) (due s : Status) (text : List ℕ) → TellsFiles (a.shelf.told a.shelf.old) boot schedule due text

@@ -1,5 +1,5 @@
 -- What calls promise of the shelf and of the sink, put together.
-use Rattle.dm_commands.proofs.Names.{◌≡◌, inl, inr, ℕ, List, ap, sym, subst, ◌∙◌, arith, refl, false≢true, Result, Ok, Err, IsErr, IsErrAnd, Boot, Input, Status, Done, Usage, ReadFault, NoMemory, WriteFault, BootRefused, ScheduleRefused, TooLong, Worn, TraceRefused, LabelsRefused}
+use Rattle.dm_commands.proofs.Names.{◌≡◌, inl, inr, ℕ, List, ap, sym, subst, ◌∙◌, arith, refl, false≢true, Result, Ok, Err, IsErr, IsErrAnd, Boot, Input, Status, Done, Usage, ReadFault, NoMemory, WriteFault, BootRefused, ScheduleRefused, TooLong, Worn, TraceRefused, LabelsRefused, NotFound, Undecided}
 use Rattle.dm_commands.proofs.Names.{SaysBoot, BlamesShelf, BlamesSink, Option, None, Some}
 use Rattle.dm_commands.specs.Asked.{Alone, Asks, AsksBoth, Both, Named, Nothing, perhaps_both}
 use Rattle.dm_commands.specs.Meets.{MeetsShelf, MeetsSink, status_so_far}
@@ -46,6 +46,8 @@ blames_nobody old new (TooLong i) e never = e
 blames_nobody old new (Worn from to) e never = e
 blames_nobody old new (TraceRefused line why) e never = e
 blames_nobody old new (LabelsRefused line) e never = e
+blames_nobody old new NotFound e never = e
+blames_nobody old new Undecided e never = e
 
 -- files were read, and what the call ends with blames none of these reads
 pub all_read : {F : Type 0} (names : Named) (f : ShelfAround F) (s : Status) → MeetsShelf names f Done → ((i : Input) → s ≡ ReadFault i → ⊥) → MeetsShelf names f s
@@ -70,6 +72,8 @@ sink_stays old new (TooLong i) e never = e
 sink_stays old new (Worn from to) e never = e
 sink_stays old new (TraceRefused line why) e never = e
 sink_stays old new (LabelsRefused line) e never = e
+sink_stays old new NotFound e never = e
+sink_stays old new Undecided e never = e
 
 -- no write failed, and what the call ends with blames none
 pub all_written : {K : Type 0} (k : SinkAround K) (s : Status) → k.faults k.new ≡ k.faults k.old → (s ≡ WriteFault → ⊥) → MeetsSink k s

@@ -36,7 +36,7 @@ pub use Rattle.dm_ending.specs.Ended.{ended_with}
 pub use Rattle.dm_ending.specs.Status.{BlamesShelf, BlamesSink, IsWant}
 pub use Rattle.dm_ending.specs.declared.status.Input.{Input}
 pub use Rattle.dm_ending.specs.declared.status.Status.{Status}
-pub use Rattle.dm_ending.specs.declared.status.Status.TheVariants.{BootRefused, Done, NoMemory, ReadFault, ScheduleRefused, TooLong, TraceRefused, LabelsRefused, Usage, Worn, WriteFault}
+pub use Rattle.dm_ending.specs.declared.status.Status.TheVariants.{BootRefused, Done, NoMemory, ReadFault, ScheduleRefused, TooLong, TraceRefused, LabelsRefused, NotFound, Undecided, Usage, Worn, WriteFault}
 pub use Rattle.dm_ending.specs.declared.stop.Stop.{Stop}
 pub use Rattle.dm_run.specs.Appended.{IsCutShort}
 pub use Rattle.dm_run.specs.Coming.{Blames}

@@ -1,7 +1,7 @@
 -- What is said of a boot file or a schedule that is refused, and that nothing is said otherwise.
 use Rattle.dm_commands.proofs.Names.{◌≡◌, ℕ, List, [], length, refl, ap, sym, subst, ◌∙◌, Option, None, Some, Result, Ok, Err, Boot, BootRule, BootTold, LineFault, Accepted, Refused, Status, Done, Usage}
-use Rattle.dm_commands.proofs.Names.{ReadFault, NoMemory, TheNoMemory, WriteFault, BootRefused, ScheduleRefused, TooLong, Worn, TraceRefused, LabelsRefused, NoBoot, NoDirectives, SaysBoot, Request, Run, Check, CheckLabels, Chart, Explain, Judge, Count, Look, WordsError, status_of_no}
-use Rattle.dm_words.specs.Request.{Drill, OwnDrill}
+use Rattle.dm_commands.proofs.Names.{ReadFault, NoMemory, TheNoMemory, WriteFault, BootRefused, ScheduleRefused, TooLong, Worn, TraceRefused, LabelsRefused, NotFound, Undecided, NoBoot, NoDirectives, SaysBoot, Request, Run, Check, CheckLabels, Chart, Explain, Judge, Count, Look, WordsError, status_of_no}
+use Rattle.dm_words.specs.Request.{Drill, Explore, OwnDrill}
 use Rattle.dm_words.specs.declared.words.WordsError.TheVariants as words_error
 use Rattle.dm_boot.specs.Boot.{boot_of}
 use Rattle.dm_schedule.specs.Schedule.{directives_of}
@@ -44,6 +44,8 @@ boot_first files boot schedule old new (TooLong i) said none h = h
 boot_first files boot schedule old new (Worn from to) said none h = h
 boot_first files boot schedule old new (TraceRefused line why) said none h = h
 boot_first files boot schedule old new (LabelsRefused line) said none h = h
+boot_first files boot schedule old new NotFound said none h = h
+boot_first files boot schedule old new Undecided said none h = h
 
 -- it says a system, and the schedule is at fault
 schedule_at : (files : Option Files) (boot schedule : List ℕ) (b : Boot) (old new : ℕ) (s : Status) (said : List ℕ) → SaysBoot files boot b → NoDirectives files schedule (length b.machines) old new s → FirstOfSchedule files schedule (length b.machines) s said → FirstOfFiles files boot schedule s said
@@ -58,6 +60,8 @@ schedule_at files boot schedule b old new (TooLong i) said says none h = h
 schedule_at files boot schedule b old new (Worn from to) said says none h = h
 schedule_at files boot schedule b old new (TraceRefused line why) said says none h = h
 schedule_at files boot schedule b old new (LabelsRefused line) said says none h = h
+schedule_at files boot schedule b old new NotFound said says none h = h
+schedule_at files boot schedule b old new Undecided said says none h = h
 
 pub schedule_first : (files between : Option Files) (boot schedule : List ℕ) (b : Boot) (machines old new : ℕ) (s : Status) (said : List ℕ) → SaysBoot files boot b → between ≡ files → machines ≡ length b.machines
     → NoDirectives between schedule machines old new s → FirstOfSchedule between schedule machines s said → FirstOfFiles files boot schedule s said
@@ -79,6 +83,8 @@ silent_boot Holds files boot (TooLong i) said no_boot h e = e
 silent_boot Holds files boot (Worn from to) said no_boot h e = e
 silent_boot Holds files boot (TraceRefused line why) said no_boot h e = e
 silent_boot Holds files boot (LabelsRefused line) said no_boot h e = e
+silent_boot Holds files boot NotFound said no_boot h e = e
+silent_boot Holds files boot Undecided said no_boot h e = e
 
 pub silent_files : (Holds : Status → Type 0) (files : Option Files) (boot schedule : List ℕ) (s : Status) (said : List ℕ) → ((number place : ℕ) → Holds (BootRefused number place) → ⊥) → ((line why : ℕ) → Holds (ScheduleRefused line why) → ⊥) → Holds s → said ≡ [] → FirstOfFiles files boot schedule s said
 silent_files Holds files boot schedule Done said no_boot no_schedule h e = e
@@ -92,6 +98,8 @@ silent_files Holds files boot schedule (TooLong i) said no_boot no_schedule h e 
 silent_files Holds files boot schedule (Worn from to) said no_boot no_schedule h e = e
 silent_files Holds files boot schedule (TraceRefused line why) said no_boot no_schedule h e = e
 silent_files Holds files boot schedule (LabelsRefused line) said no_boot no_schedule h e = e
+silent_files Holds files boot schedule NotFound said no_boot no_schedule h e = e
+silent_files Holds files boot schedule Undecided said no_boot no_schedule h e = e
 
 pub silent_first : (Holds : Status → Type 0) (r : Option Request) (files : Option Files) (s : Status) (said : List ℕ) → ((number place : ℕ) → Holds (BootRefused number place) → ⊥) → ((line why : ℕ) → Holds (ScheduleRefused line why) → ⊥) → Holds s → said ≡ [] → SaysFirst r files s said
 silent_first Holds None files s said no_boot no_schedule h e = e
@@ -103,6 +111,7 @@ silent_first Holds (Some (Explain boot schedule)) files s said no_boot no_schedu
 silent_first Holds (Some (Judge boot trace)) files s said no_boot no_schedule h e = e
 silent_first Holds (Some (Count boot schedule)) files s said no_boot no_schedule h e = silent_files Holds files boot schedule s said no_boot no_schedule h e
 silent_first Holds (Some (Look boot schedule groups)) files s said no_boot no_schedule h e = silent_files Holds files boot schedule s said no_boot no_schedule h e
+silent_first Holds (Some (Explore boot line x)) files s said no_boot no_schedule h e = silent_boot Holds files boot s said no_boot h e
 silent_first Holds (Some (Drill d)) files s said no_boot no_schedule h e = e
 silent_first Holds (Some (OwnDrill boot d)) files s said no_boot no_schedule h e = silent_boot Holds files boot s said no_boot h e
 

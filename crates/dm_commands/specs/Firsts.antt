@@ -10,7 +10,7 @@ use Rattle.dm_explain.specs.declared.explain.ScheduleTold.{ScheduleTold}
 use Rattle.dm_explain.specs.declared.explain.ScheduleTold.TheVariants as schedule_told
 use Rattle.dm_ending.specs.declared.status.Status.{Status}
 use Rattle.dm_ending.specs.declared.status.Status.TheVariants.{BootRefused, ScheduleRefused}
-use Rattle.dm_words.specs.Request.{Request, Chart, Check, Count, Drill, Explain, Judge, OwnDrill, Run, Look, CheckLabels}
+use Rattle.dm_words.specs.Request.{Request, Chart, Check, Count, Drill, Explain, Explore, Judge, OwnDrill, Run, Look, CheckLabels}
 use Rattle.dm_commands.specs.Explains.{ExplainsBroken, TellsSchedule}
 use Rattle.dm_commands.specs.Inputs.{AfterBoot}
 
@@ -70,5 +70,6 @@ SaysFirst (Some (Explain boot schedule)) files s said = said ≡ []
 SaysFirst (Some (Judge boot trace)) files s said = said ≡ []
 SaysFirst (Some (Count boot schedule)) files s said = FirstOfFiles files boot schedule s said
 SaysFirst (Some (Look boot schedule groups)) files s said = FirstOfFiles files boot schedule s said
+SaysFirst (Some (Explore boot line exploration)) files s said = FirstOfBoot files boot s said
 SaysFirst (Some (Drill drill)) files s said = said ≡ []
 SaysFirst (Some (OwnDrill boot drill)) files s said = FirstOfBoot files boot s said

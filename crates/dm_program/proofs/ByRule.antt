@@ -5,6 +5,15 @@ use Rattle.dm_draw.proofs.Within.{boot_machines, directive_fits, directives_fit}
 use Rattle.dm_draw.specs.Directives.{directive_drawn}
 use Rattle.dm_words.proofs.Ranges.{Fits}
 use Rattle.dm_commands.proofs.Carrying.{CarriesTerms, carried}
+use Rattle.std.proofs.Common.{suc, ap, ◌∙◌}
+use Rattle.dm_onekernel.specs.Boot.{IsValid}
+use Rattle.dm_explore.specs.Answers.{Answer, Found, NoneWithin, Undecided, answer}
+use Rattle.dm_explore.specs.Asked.{Bounds, Question}
+use Rattle.dm_explore.specs.Search.{AllWent, AreAsked}
+use Rattle.dm_explorelaws.proofs.ByRule.Answered.{least_by_rule, none_by_rule, sound_by_rule}
+use Rattle.dm_explorelaws.specs.ByRule.{AnsweredByRule, NoneByRuleBelow}
+use Rattle.dm_commands.proofs.Exploring.{answer_within, asked_for}
+use Rattle.dm_commands.specs.Explores.{bounds_for, question_for}
 use Rattle.dm_commands.proofs.Drills.{all_for}
 use Rattle.dm_commands.proofs.Obeying.{command_met, lacks_meets}
 use Rattle.dm_commands.proofs.Silent.{silent}
@@ -23,12 +32,22 @@ drill_for : (d : Drill) → IsWithin d → All (IsFor (length (boot_of_machines 
 drill_for d within =
     subst (λ (n : ℕ). All (IsFor n) (directives_of_drill d)) (sym (boot_machines d.machines)) (all_for d.machines (directives_of_drill d) (directives_fit d.machines (directive_drawn d.machines) d.seed d.lines (λ x. directive_fits d.machines x within.least)))
 
+-- what an answer by the machines says of all good runs of choices
+so_by_rule : (b : Boot) (q : Bounds) (x : Question) (a : Answer) → IsValid b → AreAsked (length b.machines) q → answer b q x ≡ a → AllWent b q a → AnsweredByRule b q x a
+so_by_rule b q x (Found es) valid asked is went = (sound_by_rule b q x es valid asked is went, least_by_rule b q x es valid asked is went)
+so_by_rule b q x (NoneWithin depth count) valid asked is went =
+    let same : depth ≡ q.depth = answer_within b q x (NoneWithin depth count) is in
+    let ends : answer b q x ≡ NoneWithin q.depth count = is ∙ ap (λ n. NoneWithin n count) same in
+    subst (λ n. NoneByRuleBelow b q x (suc n)) (sym same) (none_by_rule b q x count valid asked ends (subst (λ n. AllWent b q (NoneWithin n count)) same went))
+so_by_rule b q x (Undecided most) valid asked is went = tt
+
 by_rule : CarriesTerms of_world of_rule
 by_rule = record {
   runs = carries;
   looks = sees;
   drills = λ d within. carries (boot_of_machines d.machines) (directives_of_drill d) (boot_valid d.machines within.least within.most) (drill_for d within);
   traces = carries_traces;
+  answers = λ b line e valid within a named means. (means.0, so_by_rule b (bounds_for e) (question_for line e) a valid (asked_for (length b.machines) e named within) means.0 means.1);
 }
 
 pub program_meets : {F K : Type 0} (r : Option Request) (a : Around F K) (world : Option World) (s : Status) → CommandMeets of_world r a world s → ProgramMeets r a world s

@@ -3,3 +3,4 @@ pub mod CommandWords
 pub mod Given
 pub mod Ranges
 pub mod Usages
+pub mod Texts

@@ -51,3 +51,5 @@ said_pieces ws (status.TooLong i) = too_long_pieces i (file_told i ws)
 said_pieces ws (status.Worn from to) = no_pieces
 said_pieces ws (status.TraceRefused line why) = no_pieces
 said_pieces ws (status.LabelsRefused line) = no_pieces
+said_pieces ws status.NotFound = no_pieces
+said_pieces ws status.Undecided = no_pieces

@@ -10,12 +10,13 @@ use Rattle.clap.specs.Built.{AddsSubcommand}
 use Rattle.clap.specs.declared.builder.command.Command.{Command as TheCommand}
 use Rattle.dm_words.specs.declared.words.Request.{Request as TheRequest}
 use Rattle.dm_words.specs.declared.words.Request.TheVariants as the
-use Rattle.dm_words.specs.Request.{Request, Chart, Check, Count, Drill, Explain, Judge, OwnDrill, Run, Look, CheckLabels}
+use Rattle.dm_words.specs.Request.{Request, Chart, Check, Count, Drill, Explain, Explore, Judge, OwnDrill, Run, Look, CheckLabels}
 use Rattle.dm_words.specs.ChartWords.{chart_command, chart_request}
 use Rattle.dm_words.specs.CheckWords.{check_command, check_request, has_just_one}
 use Rattle.dm_words.specs.CountWords.{count_command, count_request}
 use Rattle.dm_words.specs.DrillWords.{IsWithin, OwnIsWithin, drill_command, drill_request, takes_drill}
 use Rattle.dm_words.specs.ExplainWords.{explain_command, explain_request, takes_explain}
+use Rattle.dm_words.specs.ExploreWords.{ExploreIsWithin, explore_command, explore_request, takes_explore}
 use Rattle.dm_words.specs.LookWords.{has_groups, look_command, look_request}
 use Rattle.dm_words.specs.RunWords.{run_command, run_request}
 
@@ -38,6 +39,7 @@ commands =
     record { shape = explain_command; takes = takes_explain; request = explain_request } ∷
     record { shape = count_command; takes = any; request = count_request } ∷
     record { shape = look_command; takes = has_groups; request = look_request } ∷
+    record { shape = explore_command; takes = takes_explore; request = explore_request } ∷
     record { shape = drill_command; takes = takes_drill; request = drill_request } ∷ []
 
 abbrev pub with_commands : App → List Command → App
@@ -93,6 +95,7 @@ request_said (the.Explain boot schedule) = Explain boot.now (option_map (λ s. s
 request_said (the.Judge boot trace) = Judge boot.now trace.now
 request_said (the.Count boot schedule) = Count boot.now schedule.now
 request_said (the.Look boot schedule groups) = Look boot.now schedule.now groups
+request_said (the.Explore boot line exploration) = Explore boot.now (option_map (λ s. s.now) line) exploration
 request_said (the.Drill drill) = Drill drill
 request_said (the.OwnDrill boot drill) = OwnDrill boot.now drill
 
@@ -106,5 +109,6 @@ IsInRange (the.Explain boot schedule) = ⊤
 IsInRange (the.Judge boot trace) = ⊤
 IsInRange (the.Count boot schedule) = ⊤
 IsInRange (the.Look boot schedule groups) = ⊤
+IsInRange (the.Explore boot line exploration) = ExploreIsWithin exploration
 IsInRange (the.Drill drill) = IsWithin drill
 IsInRange (the.OwnDrill boot drill) = OwnIsWithin drill

@@ -1,11 +1,13 @@
 //! What was wrong with words that ask for nothing, the form of their command, and where help is. It is asked only once the words
 //! were refused, and takes no memory.
 ghost use Rattle.std.specs.Prelude.{◌≡◌, ◌∷◌, ◌<◌, [], IfNone, IfSome, length, map, option_map, string_bytes};
-ghost use Rattle.std.specs.List.{list_any, position};
-ghost use Rattle.dm_words.specs.Usage.{absent, absent_told, attached, bad, bad_told, bad_value, behind_name, can_be, check_clash, clash, clash_told, command_lines, command_told, drill_clash, due_words, explain_clash, flags_clash, form_lines, form_named, form_word, front, has_zero, is_bad, is_dashed, is_equals, is_named, met, met_by, names, needed_of, option_named, option_word, options_of, pieces_of, pieces_told, range_words, step, step_of, takes_value, told, usage_pieces, value_here, value_of, value_word, walk, wrong_told};
+ghost use Rattle.std.specs.List.{count_by, list_any, position};
+ghost use Rattle.dm_words.specs.Usage.{absent, absent_told, attached, bad, bad_told, bad_value, bad_value_of, behind_name, can_be, check_clash, clash, clash_told, command_lines, command_told, drill_clash, due_words, explain_clash, explore_clash, flags_clash, form_lines, form_named, form_word, front, has_zero, is_bad, is_bad_value, is_dashed, is_enough, is_equals, is_named, is_number, may_repeat, met, met_by, most_times, names, needed_of, option_named, option_word, options_of, pieces_of, pieces_told, range_words, step, step_of, takes_value, told, too_often, usage_pieces, value_here, value_of, value_word, walk, wrong_told};
 
+use crate::explore::{MOST_NAMES, depth_in, most_in};
 use crate::words::{lines_in, machines_in};
-use dm_shape::names::count;
+use crate::written::{is_text, written_move, written_name};
+use dm_shape::names::{byte, count};
 
 /// A command, by its word.
 #[derive(Clone, Copy)]
@@ -16,17 +18,19 @@ pub enum Form {
     Explain,
     Count,
     Look,
+    Explore,
     Drill,
 }
 
 /// All commands.
-const FORMS: [Form; 7] = [
+const FORMS: [Form; 8] = [
     Form::Run,
     Form::Check,
     Form::Chart,
     Form::Explain,
     Form::Count,
     Form::Look,
+    Form::Explore,
     Form::Drill,
 ];
 
@@ -45,6 +49,15 @@ pub enum OptionName {
     WithTrace,
     /// `--schedule` without a value.
     WithSchedule,
+    Depth,
+    Line,
+    Stuck,
+    Move,
+    CallOff,
+    Ticks,
+    Repeats,
+    Acks,
+    Most,
 }
 
 /// What is wrong, in four pieces.
@@ -82,6 +95,7 @@ impl Form {
             Form::Explain => b"explain",
             Form::Count => b"count",
             Form::Look => b"look",
+            Form::Explore => b"explore",
             Form::Drill => b"drill",
         }
     }
@@ -105,6 +119,18 @@ impl Form {
             Form::Explain => &[OptionName::Boot, OptionName::Schedule, OptionName::Trace],
             Form::Count => &[OptionName::Boot, OptionName::Schedule],
             Form::Look => &[OptionName::Boot, OptionName::Schedule, OptionName::At],
+            Form::Explore => &[
+                OptionName::Boot,
+                OptionName::Depth,
+                OptionName::Line,
+                OptionName::Stuck,
+                OptionName::Move,
+                OptionName::CallOff,
+                OptionName::Ticks,
+                OptionName::Repeats,
+                OptionName::Acks,
+                OptionName::Most,
+            ],
             Form::Drill => &[
                 OptionName::Seed,
                 OptionName::Lines,
@@ -127,6 +153,7 @@ impl Form {
             Form::Explain => &[OptionName::Boot],
             Form::Count => &[OptionName::Boot, OptionName::Schedule],
             Form::Look => &[OptionName::Boot, OptionName::Schedule, OptionName::At],
+            Form::Explore => &[OptionName::Boot, OptionName::Depth],
             Form::Drill => &[OptionName::Seed, OptionName::Lines],
         }
     }
@@ -154,6 +181,9 @@ impl Form {
             Form::Look => {
                 b"\nform: demosmp look --boot FILE --schedule FILE --at G\nhelp: ./demosmp help, docs/FORMATS.md\n"
             }
+            Form::Explore => {
+                b"\nform: demosmp explore --boot FILE --depth N (--line TEXT | --stuck P..) [--move P=M].. [--calloff P=M].. [--ticks K] [--repeats K] [--acks] [--most S]\nhelp: ./demosmp help, docs/FORMATS.md\n"
+            }
             Form::Drill => {
                 b"\nform: demosmp drill --seed N --lines L (--machines M [--trace] | --boot FILE [--trace | --schedule])\nhelp: ./demosmp help, docs/FORMATS.md\n"
             }
@@ -177,6 +207,15 @@ impl OptionName {
             OptionName::Machines => b"--machines",
             OptionName::WithTrace => b"--trace",
             OptionName::WithSchedule => b"--schedule",
+            OptionName::Depth => b"--depth",
+            OptionName::Line => b"--line",
+            OptionName::Stuck => b"--stuck",
+            OptionName::Move => b"--move",
+            OptionName::CallOff => b"--calloff",
+            OptionName::Ticks => b"--ticks",
+            OptionName::Repeats => b"--repeats",
+            OptionName::Acks => b"--acks",
+            OptionName::Most => b"--most",
         }
     }
 
@@ -195,6 +234,15 @@ impl OptionName {
             OptionName::Machines => b" M",
             OptionName::WithTrace => b"",
             OptionName::WithSchedule => b"",
+            OptionName::Depth => b" N",
+            OptionName::Line => b" TEXT",
+            OptionName::Stuck => b" P",
+            OptionName::Move => b" P=M",
+            OptionName::CallOff => b" P=M",
+            OptionName::Ticks => b" K",
+            OptionName::Repeats => b" K",
+            OptionName::Acks => b"",
+            OptionName::Most => b" S",
         }
     }
 
@@ -213,6 +261,15 @@ impl OptionName {
             OptionName::Machines => true,
             OptionName::WithTrace => false,
             OptionName::WithSchedule => false,
+            OptionName::Depth => true,
+            OptionName::Line => true,
+            OptionName::Stuck => true,
+            OptionName::Move => true,
+            OptionName::CallOff => true,
+            OptionName::Ticks => true,
+            OptionName::Repeats => true,
+            OptionName::Acks => false,
+            OptionName::Most => true,
         }
     }
 
@@ -231,6 +288,15 @@ impl OptionName {
             OptionName::Machines => b": 2 to 16",
             OptionName::WithTrace => b"",
             OptionName::WithSchedule => b"",
+            OptionName::Depth => b": 1 to 64",
+            OptionName::Line => b": one to eight words with one space between",
+            OptionName::Stuck => b": a process as in 0.3",
+            OptionName::Move => b": a process and a machine as in 0.3=1",
+            OptionName::CallOff => b": a process and a machine as in 0.3=1",
+            OptionName::Ticks => b": 0 to 255",
+            OptionName::Repeats => b": 0 to 255",
+            OptionName::Acks => b"",
+            OptionName::Most => b": 1 to 4294967295",
         }
     }
 
@@ -250,6 +316,76 @@ impl OptionName {
             OptionName::Machines => machines_in(value).is_some(),
             OptionName::WithTrace => true,
             OptionName::WithSchedule => true,
+            OptionName::Depth => depth_in(value).is_some(),
+            OptionName::Line => is_text(value),
+            OptionName::Stuck => written_name(value).is_some(),
+            OptionName::Move => written_move(value).is_some(),
+            OptionName::CallOff => written_move(value).is_some(),
+            OptionName::Ticks => byte(value).is_some(),
+            OptionName::Repeats => byte(value).is_some(),
+            OptionName::Acks => true,
+            OptionName::Most => most_in(value).is_some(),
+        }
+    }
+
+    /// Whether it may come more than once.
+    fn may_repeat(self) -> bool
+        ensures { result ≡ may_repeat self }
+    {
+        match self {
+            OptionName::Boot => false,
+            OptionName::Schedule => false,
+            OptionName::Trace => false,
+            OptionName::Labels => false,
+            OptionName::At => false,
+            OptionName::Seed => false,
+            OptionName::Lines => false,
+            OptionName::Machines => false,
+            OptionName::WithTrace => false,
+            OptionName::WithSchedule => false,
+            OptionName::Depth => false,
+            OptionName::Line => false,
+            OptionName::Stuck => true,
+            OptionName::Move => true,
+            OptionName::CallOff => true,
+            OptionName::Ticks => false,
+            OptionName::Repeats => false,
+            OptionName::Acks => false,
+            OptionName::Most => false,
+        }
+    }
+
+    /// How often it may come.
+    fn most_times(self) -> usize
+        ensures { result ≡ most_times self }
+    {
+        if self.may_repeat() { MOST_NAMES } else { 1 }
+    }
+
+    /// Whether its value is a number.
+    fn is_number(self) -> bool
+        ensures { result ≡ is_number self }
+    {
+        match self {
+            OptionName::Boot => false,
+            OptionName::Schedule => false,
+            OptionName::Trace => false,
+            OptionName::Labels => false,
+            OptionName::At => true,
+            OptionName::Seed => true,
+            OptionName::Lines => true,
+            OptionName::Machines => true,
+            OptionName::WithTrace => false,
+            OptionName::WithSchedule => false,
+            OptionName::Depth => true,
+            OptionName::Line => false,
+            OptionName::Stuck => false,
+            OptionName::Move => false,
+            OptionName::CallOff => false,
+            OptionName::Ticks => true,
+            OptionName::Repeats => true,
+            OptionName::Acks => false,
+            OptionName::Most => true,
         }
     }
 
@@ -273,6 +409,31 @@ impl OptionName {
         ensures { result ≡ is_named self (map string_bytes words.now) }
     {
         self.is_among(words)
+    }
+
+    /// How many of these words name this option.
+    fn times_among(self, words: &[String]) -> usize
+        ensures { result ≡ count_by (λ w. names self (string_bytes w)) words.now }
+    {
+        words
+            .iter()
+            .filter(|word| self.is_in(word.as_bytes()))
+            .count()
+    }
+
+    /// The same.
+    fn times_named(self, words: &[String]) -> usize
+        ensures { result ≡ count_by (names self) (map string_bytes words.now) }
+    {
+        self.times_among(words)
+    }
+
+    /// Whether so many of these words name it as may.
+    #[tactic(auto, unfolding(crate::specs::Usage::is_enough))]
+    fn is_enough(self, words: &[String]) -> bool
+        ensures { result ≡ is_enough self (map string_bytes words.now) }
+    {
+        self.most_times() <= self.times_named(words)
     }
 }
 
@@ -371,19 +532,56 @@ pub fn value_of<'a>(option: OptionName, words: &'a [String]) -> Option<&'a [u8]>
     None
 }
 
+/// Whether a value, if there is one, isn't what it must be.
+fn is_bad_value(option: OptionName, value: Option<&[u8]>) -> bool
+    ensures { result ≡ is_bad_value option (option_map (λ v. v.now) value.entry) }
+{
+    match value {
+        Some(value) => !option.can_be(value),
+        None => false,
+    }
+}
+
+/// The first value of an option that isn't what it must be.
+#[tactic(auto, using(crate::proofs::Usages::bad_lemmas))]
+fn bad_value_of<'a>(option: OptionName, words: &'a [String]) -> Option<&'a [u8]>
+    ensures { option_map (λ v. v.now) result ≡ bad_value_of option (map string_bytes words.now) }
+{
+    let mut rest = words;
+    while let Some((word, others)) = first_word(rest) {
+        let value = value_here(word, others);
+        if option.is_in(word) && is_bad_value(option, value) {
+            return value;
+        }
+        rest = others;
+    }
+    None
+}
+
 /// What is wrong where an option is met in a word, with these words behind it, or whether it waits for its value.
 #[tactic(auto, unfolding(crate::specs::Usage::met))]
 fn met<'a>(option: OptionName, word: &[u8], others: &[String]) -> Outcome<'a>
     ensures { step_of result ≡ met option word.now (map string_bytes others.now) }
 {
-    if option.is_named(others) {
-        Outcome::Wrong(told(option.word(), b" twice", b"", b""))
+    if option.is_enough(others) {
+        Outcome::Wrong(too_often(option))
     } else {
         met_once(option, attached(word))
     }
 }
 
-/// The same where it isn't named again.
+/// What is said of an option that comes too often.
+fn too_often<'a>(option: OptionName) -> Fault<'a>
+    ensures { pieces_told result ≡ too_often option }
+{
+    if option.may_repeat() {
+        told(option.word(), b" more than 16 times", b"", b"")
+    } else {
+        told(option.word(), b" twice", b"", b"")
+    }
+}
+
+/// The same where it may come.
 fn met_once<'a>(option: OptionName, value: Option<&[u8]>) -> Outcome<'a>
     ensures { step_of result ≡ met_by option (option_map (λ v. v.now) value.entry) }
 {
@@ -468,18 +666,15 @@ fn absent(form: Form, words: &[String]) -> Option<OptionName>
         .find(|option| !option.is_named(words))
 }
 
-/// Whether the value of an option isn't what it must be.
+/// Whether a value of an option isn't what it must be.
 #[tactic(auto, unfolding(crate::specs::Usage::is_bad))]
 fn is_bad(option: OptionName, words: &[String]) -> bool
     ensures { result ≡ is_bad option (map string_bytes words.now) }
 {
-    match value_of(option, words) {
-        Some(value) => !option.can_be(value),
-        None => false,
-    }
+    bad_value_of(option, words).is_some()
 }
 
-/// An option whose value isn't what it must be.
+/// An option with a value that isn't what it must be.
 #[tactic(auto, unfolding(crate::specs::Usage::bad))]
 fn bad(form: Form, words: &[String]) -> Option<OptionName>
     ensures { result ≡ bad form (map string_bytes words.now) }
@@ -508,6 +703,10 @@ fn clash(form: Form, words: &[String]) -> &'static [u8]
         ),
         Form::Count => b"",
         Form::Look => b"",
+        Form::Explore => explore_clash(
+            OptionName::Line.is_named(words),
+            OptionName::Stuck.is_named(words),
+        ),
         Form::Drill => drill_clash(
             OptionName::Machines.is_named(words),
             OptionName::Boot.is_named(words),
@@ -535,6 +734,22 @@ fn explain_clash(schedule: bool, trace: bool) -> &'static [u8]
         (true, true) => b"--schedule and --trace: one of them at most",
         (true, false) => b"",
         (false, _) => b"",
+    }
+}
+
+/// Where these go together, words are refused only for a name that no schedule for the boot file can have.
+fn explore_clash(line: bool, stuck: bool) -> &'static [u8]
+    ensures { result.now ≡ explore_clash line stuck }
+{
+    match (line, stuck) {
+        (true, true) => b"--line and --stuck: just one of them",
+        (true, false) => {
+            b"--move or --calloff: a process or machine that no schedule for this boot file can name"
+        }
+        (false, true) => {
+            b"--stuck, --move or --calloff: a process or machine that no schedule for this boot file can name"
+        }
+        (false, false) => b"missing: --line TEXT or --stuck P",
     }
 }
 
@@ -608,7 +823,7 @@ fn wrong_values<'a>(form: Form, words: &'a [String]) -> Fault<'a>
     ensures { pieces_told result ≡ bad_told form (map string_bytes words.now) (bad form (map string_bytes words.now)) }
 {
     match bad(form, words) {
-        Some(option) => bad_value(option, value_of(option, words).unwrap_or(b"")),
+        Some(option) => bad_value(option, bad_value_of(option, words).unwrap_or(b"")),
         None => clash_told(clash(form, words)),
     }
 }
@@ -630,7 +845,7 @@ fn bad_value<'a>(option: OptionName, value: &'a [u8]) -> Fault<'a>
 fn due_words(option: OptionName, value: &[u8]) -> &'static [u8]
     ensures { result.now ≡ due_words option value.now }
 {
-    if has_zero(value) {
+    if option.is_number() && has_zero(value) {
         b": no 0 may stand in front"
     } else {
         option.range_words()
@@ -666,7 +881,7 @@ fn usage_behind<'a>(words: &'a [String]) -> Said<'a>
 pub(crate) fn command_lines() -> &'static [u8]
     ensures { result.now ≡ command_lines }
 {
-    b"\ncommands: run, check, chart, explain, count, look, drill\nhelp: ./demosmp help, docs/FORMATS.md\n"
+    b"\ncommands: run, check, chart, explain, count, look, explore, drill\nhelp: ./demosmp help, docs/FORMATS.md\n"
 }
 
 /// The same of a command's word and the words behind it.

@@ -13,6 +13,7 @@ ghost use Rattle.dm_words.specs.FileWords.{file_command as file_shape, file_opti
 ghost use Rattle.dm_words.specs.RunWords.{run_request as run_asked};
 ghost use Rattle.dm_words.specs.Words.{HasShape, IsInRange, IsTaken, bare, demosmp, request_at, request_of, request_said};
 
+use crate::explore::{Exploration, explore_command, explore_request};
 use crate::look::{look_command, look_request};
 use clap::{Arg, ArgAction, ArgMatches, Command};
 use dm_draw::drill::{Drill, OwnDrill, Shows};
@@ -91,6 +92,12 @@ pub enum Request<'a> {
         schedule: &'a str,
         groups: u32,
     },
+    /// To look through the schedules of the system of a boot file, for a line or for processes that get stuck.
+    Explore {
+        boot: &'a str,
+        line: Option<&'a str>,
+        exploration: Exploration,
+    },
     /// To do a drill: its machines are 2 to 16, its directives 1 to 10,000.
     Drill(Drill),
     /// To do a drill of the system of a boot file, or to write its directives, which are 1 to 10,000.
@@ -131,7 +138,8 @@ fn command<'a>(alloc: Global) -> Result<Command<'a>, NoMemory>
     let four = with_command(three, explain_command(alloc))?;
     let five = with_command(four, file_command(alloc, "count", "boot", "schedule"))?;
     let six = with_command(five, look_command(alloc))?;
-    with_command(six, drill_command(alloc))
+    let seven = with_command(six, explore_command(alloc))?;
+    with_command(seven, drill_command(alloc))
 }
 
 /// The command line of the program, before its commands.
@@ -208,7 +216,7 @@ pub(crate) fn file<'a>(alloc: Global, name: &'a str) -> Arg<'a>
 }
 
 /// The option `--name FILE`, which may be there.
-fn free<'a>(alloc: Global, name: &'a str) -> Arg<'a>
+pub(crate) fn free<'a>(alloc: Global, name: &'a str) -> Arg<'a>
     ensures rule { rule_of result ≡ free_option name.now }
     ensures local { result.global ≡ false }
 {
@@ -224,7 +232,7 @@ pub(crate) fn number<'a>(alloc: Global, name: &'a str) -> Arg<'a>
 }
 
 /// The option `--name`, which may be there.
-fn flag<'a>(alloc: Global, name: &'a str) -> Arg<'a>
+pub(crate) fn flag<'a>(alloc: Global, name: &'a str) -> Arg<'a>
     ensures rule { rule_of result ≡ flag_option name.now }
     ensures local { result.global ≡ false }
 {
@@ -264,6 +272,9 @@ fn request_of_command<'a>(name: &str, found: &ArgMatches<'a>) -> Option<Request<
     }
     if name == "look" {
         return look_request(found);
+    }
+    if name == "explore" {
+        return explore_request(found);
     }
     if name == "drill" {
         return drill_request(found);
