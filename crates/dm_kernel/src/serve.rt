@@ -52,7 +52,7 @@ impl Kernel {
         match halt {
             Some(halt) => match halt {
                 Halt::Call(number) => {
-                    let called = call(process, number, here);
+                    let called = call(self.alloc, process, number, here)?;
                     self.after_call(pid, count, number, called)
                 }
                 Halt::Fault(fault) => self.end(pid, count, Why::Fault(fault)),
@@ -74,8 +74,8 @@ impl Kernel {
     {
         match called {
             Called::Replied(reply) => self.goes_on(pid, count, Label::Call { pid, number, reply }),
-            Called::Sent(message) => self.sends(pid, count, Parcel::new(self.alloc, message)?),
-            Called::Moving(message) => self.sends(pid, count, Parcel::new(self.alloc, message)?),
+            Called::Sent(message) => self.sends(pid, count, message),
+            Called::Moving(message) => self.sends(pid, count, message),
             Called::Waits => self.goes_on(pid, count, Label::Wait { pid }),
             Called::Out(word) => self.goes_on(pid, count, Label::Out { pid, word }),
             Called::Ended(why) => self.end(pid, count, why),

@@ -29,9 +29,8 @@ impl Kernel {
         ensures { Answers result self.new (bind (process_in (at self.old.records message.to.pid))
             (λ x. turned (with_here (kernel_state self.old) message.to.pid (queued x message)) (Part.Says (line_.Queued message.id) ∷ []))) }
     {
-        let message = message.into_inner();
-        let id = message.id;
-        let process = process_mut(&mut self.records, message.to.pid).unwrap();
+        let (id, to) = (message.get().id, message.get().to);
+        let process = process_mut(&mut self.records, to.pid).unwrap();
         process.queue.push(message)?;
         self.say(Line::Queued(id))
     }

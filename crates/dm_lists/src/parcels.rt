@@ -10,7 +10,6 @@ use std::marker::Model;
 /// pointers move. Contracts see it as any other queue.
 #[derive(Drop)]
 pub struct Parcels<T> {
-    alloc: Global,
     values: VecDeque<Parcel<T>>,
 }
 
@@ -31,20 +30,18 @@ impl<T> Parcels<T> {
         ensures { result ≡ [] }
     {
         Parcels {
-            alloc,
             values: VecDeque::new(alloc),
         }
     }
 
     /// Adds a value at the back, or leaves the queue as it was.
-    pub fn push(&mut self, item: T) -> Result<(), NoMemory>
+    pub fn push(&mut self, item: Parcel<T>) -> Result<(), NoMemory>
     where
         T: Drop,
         ensures ok { OnOk result (self.new ≡ self.old ++ item ∷ []) }
         ensures err { OnErr result (self.new ≡ self.old) }
     {
-        let parcel = Parcel::new(self.alloc, item)?;
-        push_back(&mut self.values, parcel)
+        push_back(&mut self.values, item)
     }
 
     /// Takes the value at the front.

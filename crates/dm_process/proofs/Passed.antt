@@ -1,5 +1,5 @@
 -- How far a queue was looked through, channel by channel.
-use Rattle.std.specs.Prelude.{◌⊎◌, ◌==◌, ◌&&◌, ◌++◌, nat_lt, slice_index_or, replicate, Bool, Option, if◌then◌else◌, ◌/◌, ◌%◌, ◌^◌}
+use Rattle.std.specs.Prelude.{◌==◌, ◌&&◌, ◌++◌, nat_lt, slice_index_or, replicate, Bool, Option, if◌then◌else◌, ◌/◌, ◌%◌, ◌^◌}
 use Rattle.std.proofs.Common.{◌-◌, inl, inr}
 use Rattle.std.proofs.lemmas.Bool.Decides.{nat_tests}
 use Rattle.dm_message.specs.declared.What.{What}
@@ -11,7 +11,7 @@ use Rattle.std.specs.declared.result.Result.{Result}
 use Rattle.std.specs.declared.result.Result.TheVariants.{Err, Ok}
 use Rattle.dm_process.specs.Passed.{WasSearched, AreOff, ArePassed, IsKept, shifted, what_is_of}
 
-abbrev IsZero : ℕ → Type 0
+abbrev pub IsZero : ℕ → Type 0
 IsZero n = n ≡ 0
 
 -- fewer aren't on it either
@@ -112,7 +112,7 @@ pub taken_passed : (i : ℕ) (old new : List ℕ) (ms : List Message) → ((c : 
 taken_passed i old new ms is h = λ c lt.
     subst (λ (n : ℕ). AreOff c n (remove ms i)) (sym (is c lt)) (shifted_off (nat_lt i (slice_index_or old c 0)) c (slice_index_or old c 0) i ms refl (h c lt))
 
-zero_at : (n c : ℕ) → IsZero (slice_index_or (replicate n 0) c 0)
+pub zero_at : (n c : ℕ) → IsZero (slice_index_or (replicate n 0) c 0)
 zero_at zero c = refl
 zero_at (suc n) zero = refl
 zero_at (suc n) (suc c) = zero_at n c

@@ -1,5 +1,5 @@
 -- How far a queue was looked through for a channel.
-use Rattle.std.specs.Prelude.{◌≡◌, ◌⊎◌, ℕ, zero, suc, ◌<◌, ◌≤◌, ◌-◌, Bool, true, false, ◌==◌, nat_lt, if◌then◌else◌, List, [], ◌∷◌, length, slice_index_or}
+use Rattle.std.specs.Prelude.{◌≡◌, ◌⊎◌, ℕ, zero, suc, ◌<◌, ◌-◌, Bool, true, false, ◌==◌, nat_lt, if◌then◌else◌, List, [], ◌∷◌, slice_index_or}
 use Rattle.dm_message.specs.declared.Message.{Message}
 use Rattle.dm_message.specs.declared.What.{What}
 use Rattle.dm_message.specs.declared.What.TheVariants as what
@@ -32,3 +32,7 @@ IsKept mask passed c old new = (new ≡ old) ⊎ ((on_mask mask c ≡ true) × (
 -- a message at a place is taken
 abbrev pub shifted : ℕ → ℕ → ℕ
 shifted place passed = if nat_lt place passed then passed - 1 else passed
+
+-- where nothing is known of any channel, each number is 0
+abbrev pub AreNone : Bool → List ℕ → Type 0
+AreNone any places = any ≡ false → (c : ℕ) → c < 32 → slice_index_or places c 0 ≡ 0

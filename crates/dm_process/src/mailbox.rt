@@ -3,9 +3,9 @@ ghost use Rattle.std.specs.Prelude.{◌≡◌, ◌<◌, ◌≤◌, ◌++◌, ◌
 ghost use Rattle.dm_process.specs.Mail.{first_on, is_on, on_mask, without_first_on, HasPassed};
 ghost use Rattle.dm_process.specs.Passed.{WasSearched};
 
-use crate::channels::{CHANNELS, Places, keep, passed_by, shift};
+use crate::channels::Places;
 use dm_lists::Parcels;
-use dm_memory::NoMemory;
+use dm_memory::{NoMemory, Parcel};
 use dm_message::{Message, What};
 use std::alloc::Global;
 use std::marker::Model;
@@ -46,7 +46,7 @@ impl Mailbox {
             messages: Parcels::new(alloc),
             mask: 0,
             passed: 0,
-            places: [0; CHANNELS],
+            places: Places::new(),
         }
     }
 
@@ -66,7 +66,7 @@ impl Mailbox {
     }
 
     /// Adds a message at the back, or leaves the mailbox as it was.
-    pub fn push(&mut self, message: Message) -> Result<(), NoMemory>
+    pub fn push(&mut self, message: Parcel<Message>) -> Result<(), NoMemory>
         ensures ok { OnOk result (self.new ≡ self.old ++ message ∷ []) }
         ensures err { OnErr result (self.new ≡ self.old) }
     {
@@ -80,7 +80,7 @@ impl Mailbox {
         ensures rest { self.new ≡ remove self.old place }
     {
         self.passed = self.passed.min(place);
-        shift(&mut self.places, place);
+        self.places.shift(place);
         self.messages.take(place)
     }
 
@@ -148,7 +148,7 @@ fn passed_to(messages: &Parcels<Message>, places: &Places, last: (u32, usize), m
     if last.0 == mask {
         last.1
     } else {
-        passed_by(places, mask, messages.len())
+        places.passed_by(mask, messages.len())
     }
 }
 
@@ -160,8 +160,8 @@ fn turn_to(messages: &Parcels<Message>, places: &mut Places, last: (u32, usize),
     if last.0 == mask {
         return last.1;
     }
-    keep(places, last.0, last.1);
-    passed_by(places, mask, messages.len())
+    places.keep(last.0, last.1);
+    places.passed_by(mask, messages.len())
 }
 
 /// The place of the first message that is on a mask, or behind the last, where it is known that none before `from` is.

@@ -121,7 +121,7 @@ impl Kernel {
         match step(&mut process.regs, &mut process.memory) {
             Stepped::Plain => Err(Refusal::NoStep),
             Stepped::Call(number) => {
-                let called = call(&mut process, number, HERE);
+                let called = call(self.alloc, &mut process, number, HERE)?;
                 Ok((process, Trap::Call { number, called }))
             }
             Stepped::Fault(fault) => Ok((process, Trap::Fault(fault))),

@@ -26,6 +26,7 @@ ghost use Rattle.dm_replay.specs.Traps.{IsLawfulTrap, IsSaidTrap, plain_trap};
 use crate::kernel::{Kernel, MOST_LABELS, Refusal};
 use crate::processes::Trap;
 use dm_link::Pid;
+use dm_memory::Parcel;
 use dm_message::{Message, MsgId};
 use dm_onekernel::{Reply, Why};
 use dm_process::{Mailbox, Process, Service};
@@ -148,11 +149,11 @@ impl Trap {
             Trap::Call {
                 called: Called::Sent(message),
                 ..
-            } => Some(message),
+            } => Some(message.into_inner()),
             Trap::Call {
                 called: Called::Moving(message),
                 ..
-            } => Some(message),
+            } => Some(message.into_inner()),
             _ => None,
         }
     }
@@ -275,7 +276,8 @@ impl Kernel {
             return Err(Refusal::NoStep);
         }
         process.queue = Mailbox::new(self.alloc);
-        process.queue.push(message)?;
+        let parcel = Parcel::new(self.alloc, message)?;
+        process.queue.push(parcel)?;
         let Some(place) = place_of(process.service()) else {
             return Err(Refusal::NoStep);
         };

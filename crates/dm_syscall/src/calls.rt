@@ -1,5 +1,5 @@
 //! The calls by number.
-ghost use Rattle.std.specs.Prelude.{◌≡◌, ◌+◌, ◌≤◌, ◌<◌, Some, length, nat_lt};
+ghost use Rattle.std.specs.Prelude.{◌≡◌, ◌+◌, ◌≤◌, ◌<◌, IfOk, OnOk, Some, length, nat_lt};
 ghost use Rattle.dm_process.specs.Lawful.{IsLawfulProcess};
 ghost use Rattle.dm_onekernel.specs.Calls as kernel;
 ghost use Rattle.dm_onekernel.specs.Plain.{plain_process};
@@ -12,43 +12,47 @@ use crate::number::Call;
 use crate::send::send;
 use crate::transfer::transfer;
 use dm_link::MACHINES;
+use dm_memory::NoMemory;
 use dm_onekernel::{Reply, Why};
 use dm_process::{Process, Status};
 use dm_processor::{Cells, Memory};
+use std::alloc::Global;
 
-/// Does the call with a number for a process on machine `here`, whose program counter is past the instruction.
-pub fn call(process: &mut Process, number: u8, here: u8) -> Called
+/// Does the call with a number for a process on machine `here`, whose program counter is past the instruction. Only a message that
+/// it sends takes memory.
+pub fn call(alloc: Global, process: &mut Process, number: u8, here: u8) -> Result<Called, NoMemory>
     requires lawful { IsLawfulProcess process.old }
     requires here { here < MACHINES }
     requires counts { process.old.sent < u32.MAX }
-    ensures called { result ≡ (calls here process.old number).called }
-    ensures process { process.new ≡ (calls here process.old number).process }
-    ensures plain { plain_called result process.new ≡ Some (kernel.call process.old.pid (plain_process process.old) number) }
-    ensures lawful { IsLawfulProcess process.new }
-    ensures lawful_message { IsLawfulCalled result }
-    ensures counted { process.new.sent ≤ process.old.sent + 1 }
+    ensures called { IfOk result (λ called. called ≡ (calls here process.old number).called) }
+    ensures process { OnOk result (process.new ≡ (calls here process.old number).process) }
+    ensures plain { IfOk result (λ called. plain_called called process.new ≡ Some (kernel.call process.old.pid (plain_process process.old) number)) }
+    ensures lawful { OnOk result (IsLawfulProcess process.new) }
+    ensures lawful_message { IfOk result IsLawfulCalled }
+    ensures counted { OnOk result (process.new.sent ≤ process.old.sent + 1) }
 {
-    dispatch(process, number, here)
+    let called = dispatch(alloc, process, number, here)?;
+    Ok(called)
 }
 
 /// Does the call with a number.
-fn dispatch(process: &mut Process, number: u8, here: u8) -> Called
+fn dispatch(alloc: Global, process: &mut Process, number: u8, here: u8) -> Result<Called, NoMemory>
     requires lawful { IsLawfulProcess process.old }
     requires here { here < MACHINES }
     requires counts { process.old.sent < u32.MAX }
-    ensures called { result ≡ (calls here process.old number).called }
-    ensures process { process.new ≡ (calls here process.old number).process }
+    ensures called { IfOk result (λ called. called ≡ (calls here process.old number).called) }
+    ensures process { OnOk result (process.new ≡ (calls here process.old number).process) }
 {
     match Call::from_number(number) {
-        Some(Call::Exit) => Called::Ended(Why::Exit),
-        Some(Call::Out) => out(process),
-        Some(Call::Make) => make(process, here),
-        Some(Call::Copy) => copy(process),
-        Some(Call::Drop) => drop_link(process),
-        Some(Call::Send) => send(process, here),
-        Some(Call::Receive) => receive(process),
-        Some(Call::Move) => transfer(process, here),
-        None => Called::Ended(Why::UnknownCall),
+        Some(Call::Exit) => Ok(Called::Ended(Why::Exit)),
+        Some(Call::Out) => Ok(out(process)),
+        Some(Call::Make) => Ok(make(process, here)),
+        Some(Call::Copy) => Ok(copy(process)),
+        Some(Call::Drop) => Ok(drop_link(process)),
+        Some(Call::Send) => send(alloc, process, here),
+        Some(Call::Receive) => Ok(receive(process)),
+        Some(Call::Move) => transfer(alloc, process, here),
+        None => Ok(Called::Ended(Why::UnknownCall)),
     }
 }
 

@@ -1,4 +1,4 @@
-//! The calls of processes. None of them takes memory.
+//! The calls of processes. Memory is taken for the message alone that one of them sends.
 #![tactic(auto)]
 
 mod calls;
@@ -9,6 +9,7 @@ mod send;
 mod transfer;
 
 pub use calls::call;
+use dm_memory::Parcel;
 use dm_message::{Message, MsgId};
 use dm_onekernel::{Reply, Why};
 pub use receive::complete_receive;
@@ -19,11 +20,11 @@ pub enum Called {
     /// It is over, with this reply in register 0.
     Replied(Reply),
     /// The message is to be routed.
-    Sent(Message),
+    Sent(Parcel<Message>),
     /// The process waits for a message.
     Waits,
     /// A data move begins: its first request is to be routed.
-    Moving(Message),
+    Moving(Parcel<Message>),
     /// The word is put out.
     Out(u32),
     /// The process ends.

@@ -1,5 +1,5 @@
 //! The call SEND.
-ghost use Rattle.std.specs.Prelude.{◌≡◌, ◌+◌, ◌≤◌, ◌<◌, ◌∷◌, [], ◌==◌, IfNone, None, Some, if◌then◌else◌, length, map};
+ghost use Rattle.std.specs.Prelude.{◌≡◌, ◌+◌, ◌≤◌, ◌<◌, ◌∷◌, [], ◌==◌, IfNone, IfOk, None, OnOk, Some, if◌then◌else◌, length, map};
 ghost use Rattle.dm_linktable.specs.Slots.{link_at, plain_slot};
 ghost use Rattle.dm_onekernel.specs.declared.label.Reply.TheVariants as reply;
 ghost use Rattle.dm_onekernel.specs.Calls.{any_empty, holds_reply, is_among, reply_named_twice, send_refusals};
@@ -12,28 +12,33 @@ ghost use Rattle.dm_syscall.specs.Sends.{emptied, links_in};
 use crate::Called;
 use crate::calls::{ends_outside, reply};
 use crate::links::{empty_slot, link_in};
+use arrayvec::ArrayVec;
 use dm_datamove::{address_of, body_at};
 use dm_link::Link;
 use dm_linktable::{FEW_SLOTS, Table, serves_once};
-use dm_message::{Body, Enclosed, MOST_BODY, MOST_LINKS, Message, MsgId, What};
+use dm_memory::{NoMemory, Parcel};
+use dm_message::{Enclosed, MOST_BODY, MOST_LINKS, Message, MsgId, What};
 use dm_onekernel::Reply;
 use dm_process::Process;
+use dm_processor::Cells;
+use std::alloc::Global;
 
 /// Sends a body of r3 bytes at r2, with the links of the r4 slots whose numbers stand at r5, over the link in slot r1.
-pub fn send(process: &mut Process, here: u8) -> Called
+pub fn send(alloc: Global, process: &mut Process, here: u8) -> Result<Called, NoMemory>
     requires { process.old.sent < u32.MAX }
-    ensures called { result ≡ (sends here process.old (link_at process.old.table (reg process.old.regs 1))).called }
-    ensures process { process.new ≡ (sends here process.old (link_at process.old.table (reg process.old.regs 1))).process }
+    ensures called { IfOk result (λ called. called ≡ (sends here process.old (link_at process.old.table (reg process.old.regs 1))).called) }
+    ensures process { OnOk result (process.new ≡ (sends here process.old (link_at process.old.table (reg process.old.regs 1))).process) }
 {
     match link_in(&process.table, process.regs.r[1]) {
-        None => reply(process, Reply::NoLink),
+        None => Ok(reply(process, Reply::NoLink)),
         Some(link) => match send_refusal(process) {
-            Some(refusal) => reply(process, refusal),
+            Some(refusal) => Ok(reply(process, refusal)),
             None => {
                 let slots = listed(process);
                 let message = message_over(process, link, slots.as_slice(), here);
+                let message = Parcel::new(alloc, message)?;
                 count_sent(process, slots.as_slice());
-                Called::Sent(message)
+                Ok(Called::Sent(message))
             },
         },
     }
@@ -67,12 +72,18 @@ fn most_body(table: &Table) -> u32
 }
 
 /// The slots whose links are to be enclosed.
-fn listed(process: &Process) -> Body
+fn listed(process: &Process) -> ArrayVec<u8, MOST_LINKS>
     requires short { reg process.now.regs 4 ≤ 4 }
     requires within { reg process.now.regs 5 + reg process.now.regs 4 ≤ length process.now.memory }
     ensures { result ≡ record { items = listed process.now } }
 {
-    body_at(&process.memory, process.regs.r[5], process.regs.r[4])
+    let [_, _, _, _, count, list, ..] = process.regs.r;
+    let mut bytes = [0; MOST_LINKS];
+    let part = &mut bytes[..count as usize];
+    process.memory.copy_out(list, part);
+    let mut slots = ArrayVec::new();
+    slots.try_extend_from_slice(part).unwrap();
+    slots
 }
 
 /// Why the links of these slots aren't enclosed in what goes over the carrier.

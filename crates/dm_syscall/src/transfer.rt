@@ -1,5 +1,5 @@
 //! The call MOVE, which begins a data move.
-ghost use Rattle.std.specs.Prelude.{◌≡◌, ◌+◌, ◌≤◌, ◌<◌, IfNone, length};
+ghost use Rattle.std.specs.Prelude.{◌≡◌, ◌+◌, ◌≤◌, ◌<◌, IfNone, IfOk, OnOk, length};
 ghost use Rattle.dm_link.specs.Lawful.{IsLawfulEnclosed};
 ghost use Rattle.dm_link.specs.Plain.{plain_link};
 ghost use Rattle.dm_linktable.specs.Slots.{link_at};
@@ -16,38 +16,45 @@ use crate::calls::{ends_outside, reply};
 use crate::links::link_in;
 use dm_datamove::{Rest, request};
 use dm_link::{Area, Link, MACHINES};
+use dm_memory::{NoMemory, Parcel};
 use dm_onekernel::Reply;
 use dm_process::{Direction, Process};
+use std::alloc::Global;
 
 /// Moves r5 bytes from the area of the link in slot r1 (r2 is 0) or into it (1), at r3 there and at r4 in the process's
 /// own memory.
-pub fn transfer(process: &mut Process, here: u8) -> Called
+pub fn transfer(alloc: Global, process: &mut Process, here: u8) -> Result<Called, NoMemory>
     requires lawful { IsLawfulProcess process.old }
     requires here { here < MACHINES }
     requires counts { process.old.sent < u32.MAX }
-    ensures called { result ≡ (moves here process.old (link_at process.old.table (reg process.old.regs 1))).called }
-    ensures process { process.new ≡ (moves here process.old (link_at process.old.table (reg process.old.regs 1))).process }
+    ensures called { IfOk result (λ called. called ≡ (moves here process.old (link_at process.old.table (reg process.old.regs 1))).called) }
+    ensures process { OnOk result (process.new ≡ (moves here process.old (link_at process.old.table (reg process.old.regs 1))).process) }
 {
     match link_in(&process.table, process.regs.r[1]) {
-        None => reply(process, Reply::NoLink),
-        Some(link) => transfer_over(process, link, here),
+        None => Ok(reply(process, Reply::NoLink)),
+        Some(link) => transfer_over(alloc, process, link, here),
     }
 }
 
 /// Begins a move over a link that is there, or refuses to.
-fn transfer_over(process: &mut Process, link: Link, here: u8) -> Called
+fn transfer_over(
+    alloc: Global,
+    process: &mut Process,
+    link: Link,
+    here: u8,
+) -> Result<Called, NoMemory>
     requires lawful { IsLawfulProcess process.old }
     requires link { IsLawfulEnclosed link }
     requires here { here < MACHINES }
     requires counts { process.old.sent < u32.MAX }
-    ensures called { result ≡ (moves_over here process.old link (direction_numbered (reg process.old.regs 2))).called }
-    ensures process { process.new ≡ (moves_over here process.old link (direction_numbered (reg process.old.regs 2))).process }
+    ensures called { IfOk result (λ called. called ≡ (moves_over here process.old link (direction_numbered (reg process.old.regs 2))).called) }
+    ensures process { OnOk result (process.new ≡ (moves_over here process.old link (direction_numbered (reg process.old.regs 2))).process) }
 {
     match Direction::numbered(process.regs.r[2]) {
-        None => reply(process, Reply::BadKind),
+        None => Ok(reply(process, Reply::BadKind)),
         Some(dir) => match transfer_refusal(process, &link, dir) {
-            Some(refusal) => reply(process, refusal),
-            None => begin(process, link, dir, here),
+            Some(refusal) => Ok(reply(process, refusal)),
+            None => begin(alloc, process, link, dir, here),
         },
     }
 }
@@ -81,19 +88,25 @@ fn lacks_right(dir: Direction, area: &Area) -> bool
 }
 
 /// Sends the first request; a move of nothing is done at once.
-fn begin(process: &mut Process, link: Link, dir: Direction, here: u8) -> Called
+fn begin(
+    alloc: Global,
+    process: &mut Process,
+    link: Link,
+    dir: Direction,
+    here: u8,
+) -> Result<Called, NoMemory>
     requires lawful { IsLawfulProcess process.old }
     requires link { IsLawfulEnclosed link }
     requires area { reg process.old.regs 3 + reg process.old.regs 5 ≤ link.area.len }
     requires own { reg process.old.regs 4 + reg process.old.regs 5 ≤ length process.old.memory }
     requires here { here < MACHINES }
     requires counts { process.old.sent < u32.MAX }
-    ensures called { result ≡ (moves_bytes here process.old link dir).called }
-    ensures process { process.new ≡ (moves_bytes here process.old link dir).process }
+    ensures called { IfOk result (λ called. called ≡ (moves_bytes here process.old link dir).called) }
+    ensures process { OnOk result (process.new ≡ (moves_bytes here process.old link dir).process) }
 {
     let [_, _, _, offset, own, left, ..] = process.regs.r;
     if left == 0 {
-        return reply(process, Reply::Done);
+        return Ok(reply(process, Reply::Done));
     }
     let rest = Rest {
         dir,
@@ -102,5 +115,7 @@ fn begin(process: &mut Process, link: Link, dir: Direction, here: u8) -> Called
         own,
         left,
     };
-    Called::Moving(request(process, rest, here))
+    let request = request(process, rest, here);
+    let request = Parcel::new(alloc, request)?;
+    Ok(Called::Moving(request))
 }

@@ -8,8 +8,8 @@ use Rattle.dm_kernel.proofs.Receiving.{says_one}
 use Rattle.dm_kernel.proofs.Serving.{Keeps, call_keeps, called_as, ended_as, executes_as, has_place, has_run, runs_lawfully}
 use Rattle.dm_kernel.proofs.kernel.Kernel.run.Goals as goal
 
-pub call-called-requires-clause-lawful : goal.call-called-requires-clause-lawful
-call-called-requires-clause-lawful c =
+pub call-requires-clause-lawful : goal.call-requires-clause-lawful
+call-requires-clause-lawful c =
     let x = c.unwrap-process.result.now in
     let mine : Executes (kernel_state c.args.self.now) c.args.pid x = is_here (Executes (kernel_state c.args.self.now) c.args.pid) _ x (sym c.process_mut.ensures.value ∙ ap option_copied_mut c.unwrap-process.ensures) c.requires.process in
     runs_lawfully x (record { regs = c.execute-count.new.regs; bytes = c.execute-count.new.memory }) (has_run c.args.quantum x _ c.execute-count.ensures) mine.ready mine.acts.lawful
@@ -18,11 +18,11 @@ pub after_call-requires : goal.after_call-requires
 after_call-requires c =
     let s = kernel_state c.args.self.now in
     let x = c.unwrap-process.result.now in
-    let w = c.call-called.new.process in
+    let w = c.call.new.process in
     let mine : Executes s c.args.pid x = is_here (Executes s c.args.pid) _ x (sym c.process_mut.ensures.value ∙ ap option_copied_mut c.unwrap-process.ensures) c.requires.process in
     let kept : Keeps (processor_of x) (record { regs = c.execute-count.new.regs; bytes = c.execute-count.new.memory }) = has_run c.args.quantum x _ c.execute-count.ensures in
     has_place s _ c.args.pid x w (at c.args.self.now.records) refl mine.sent (c.process_mut.follows.holds w (has_some _ x (sym c.process_mut.ensures.value ∙ ap option_copied_mut c.unwrap-process.ensures))).0
-    (ap length (ap (λ (y : Process). y.memory) c.call-called.ensures.process ∙ call_keeps c.args.self.now.here (record x { regs = c.execute-count.new.regs; memory = c.execute-count.new.memory }) c.in-Call.number) ∙ kept.memory)
+    (ap length (ap (λ (y : Process). y.memory) c.in_ok-called-in-Call.ensures.process ∙ call_keeps c.args.self.now.here (record x { regs = c.execute-count.new.regs; memory = c.execute-count.new.memory }) c.in-Call.number) ∙ kept.memory)
     mine.acts
 
 pub end-requires : goal.end-requires
@@ -36,18 +36,18 @@ end-requires c =
     kept.memory
     mine.acts
 
-pub returns-in-Call : goal.returns-in-Call
-returns-in-Call c =
+pub returns-in_ok-called-in-Call : goal.returns-in_ok-called-in-Call
+returns-in_ok-called-in-Call c =
     let s = kernel_state c.args.self.now in
     let x = c.unwrap-process.result.now in
-    let w = c.call-called.new.process in
+    let w = c.call.new.process in
     let set = c.process_mut.follows.holds w (has_some _ x (sym c.process_mut.ensures.value ∙ ap option_copied_mut c.unwrap-process.ensures)) in
     let halted : c.execute-count.result.1 ≡ Some (halt.Call c.in-Call.number) = c.in-Some.is ∙ ap Some c.in-Call.is in
     subst (Answers c.after_call.result c.after_call.new.self)
-    (called_as s _ c.args.pid c.execute-count.result.0 c.in-Call.number w _ c.call-called.result
+    (called_as s _ c.args.pid c.execute-count.result.0 c.in-Call.number w _ c.in_ok-called-in-Call.called
     (sets s c.args.pid w _ _ set.0 set.1)
-    c.call-called.ensures.process
-    c.call-called.ensures.called
+    c.in_ok-called-in-Call.ensures.process
+    c.in_ok-called-in-Call.ensures.called
     ∙ sym (executes_as s c.args.pid c.args.quantum x (record { count = c.execute-count.result.0; machine = record { regs = c.execute-count.new.regs; bytes = c.execute-count.new.memory }; halt = Some (halt.Call c.in-Call.number) }) (sym c.process_mut.ensures.value ∙ ap option_copied_mut c.unwrap-process.ensures) (c.execute-count.ensures ∙ ap (λ h. record { count = c.execute-count.result.0; machine = record { regs = c.execute-count.new.regs; bytes = c.execute-count.new.memory }; halt = h }) halted)))
     c.after_call.ensures
 

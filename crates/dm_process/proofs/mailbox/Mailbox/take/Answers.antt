@@ -12,5 +12,5 @@ invariant_of-self c =
     record {
       last = subst (HasPassed b.mask c.min-self-inside.result) (sym c.take.ensures.rest)
           (subst (λ (n : ℕ). HasPassed b.mask n (remove b.messages c.args.place)) (sym c.min-self-inside.ensures) (taken b.mask b.messages b.passed c.args.place there c.self.invariant.last));
-      others = subst (ArePassed c.shift.new.places) (sym c.take.ensures.rest) (taken_passed c.args.place b.places c.shift.new.places b.messages c.shift.ensures c.self.invariant.others);
+      others = subst (ArePassed c.shift.new.self) (sym c.take.ensures.rest) (taken_passed c.args.place b.places c.shift.new.self b.messages c.shift.ensures c.self.invariant.others);
     }

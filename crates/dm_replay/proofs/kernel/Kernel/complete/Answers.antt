@@ -34,7 +34,7 @@ pub returns-in_default-clause-gives : goal.returns-in_default-clause-gives
 returns-in_default-clause-gives c = λ b.
     let m : Message = c.in_ok-message.message in
     let y : Process = record c.in_ok-process.process { queue = c.push.new.self } in
-    let queue : y.queue ≡ m ∷ [] = c.in_ok-push.ensures.ok ∙ ap (λ (q : List Message). q ++ m ∷ []) c.new.ensures in
+    let queue : y.queue ≡ m ∷ [] = c.in_ok-push.ensures.ok ∙ ap (λ (q : List Message). q ++ c.in_ok-parcel.parcel ∷ []) c.new.ensures ∙ ap (λ (x : Message). x ∷ []) c.in_ok-parcel.ensures in
     completing_as (one_kernel b c.args.self.now) (one_kernel b c.take_at_hand.new.self) c.args.pid c.args.id (plain_process c.in_ok-process.process) m (c.in_ok-process.ensures.out b) (c.in_ok-process.ensures.gives b) (c.in_ok-message.ensures.gives b)
     ∙ no_place c.args.pid c.service.result y m (sym c.place_of.ensures ∙ c.in_default.is) c.service.ensures.runnable c.service.ensures.service queue
 
@@ -42,7 +42,7 @@ pub complete_receive-completed-requires-clause-lawful : goal.complete_receive-co
 complete_receive-completed-requires-clause-lawful c =
     let m : Message = c.in_ok-message.message in
     let y : Process = record c.in_ok-process.process { queue = c.push.new.self } in
-    let queue : y.queue ≡ m ∷ [] = c.in_ok-push.ensures.ok ∙ ap (λ (q : List Message). q ++ m ∷ []) c.new.ensures in
+    let queue : y.queue ≡ m ∷ [] = c.in_ok-push.ensures.ok ∙ ap (λ (q : List Message). q ++ c.in_ok-parcel.parcel ∷ []) c.new.ensures ∙ ap (λ (x : Message). x ∷ []) c.in_ok-parcel.ensures in
     let sound = c.in_ok-process.ensures.sound c.args.self.now.labels c.requires.sound in
     subst IsLawfulProcess (sym c.service.ensures.unchanged)
     (queue_lawful c.in_ok-process.process c.push.new.self m queue (c.in_ok-message.ensures.fit c.args.self.now.labels sound) (c.in_ok-process.ensures.fit c.args.self.now.labels c.requires.sound).lawful)
@@ -51,7 +51,7 @@ pub complete_receive-completed-requires-clause-awaited : goal.complete_receive-c
 complete_receive-completed-requires-clause-awaited c =
     let m : Message = c.in_ok-message.message in
     let y : Process = record c.in_ok-process.process { queue = c.push.new.self } in
-    let queue : y.queue ≡ m ∷ [] = c.in_ok-push.ensures.ok ∙ ap (λ (q : List Message). q ++ m ∷ []) c.new.ensures in
+    let queue : y.queue ≡ m ∷ [] = c.in_ok-push.ensures.ok ∙ ap (λ (q : List Message). q ++ c.in_ok-parcel.parcel ∷ []) c.new.ensures ∙ ap (λ (x : Message). x ∷ []) c.in_ok-parcel.ensures in
     let k = placed c.service.result y c.in-Some.place (sym c.place_of.ensures ∙ c.in-Some.is) c.service.ensures.runnable c.service.ensures.service in
     subst (λ (z : Process). IsAwaited z.status (slice_get z.queue c.in-Some.place)) (sym c.service.ensures.unchanged) (awaits_it y m k.mask c.in-Some.place queue k.takes)
 
@@ -59,7 +59,7 @@ pub returns-clause-gives : goal.returns-clause-gives
 returns-clause-gives c = λ b.
     let m : Message = c.in_ok-message.message in
     let y : Process = record c.in_ok-process.process { queue = c.push.new.self } in
-    let queue : y.queue ≡ m ∷ [] = c.in_ok-push.ensures.ok ∙ ap (λ (q : List Message). q ++ m ∷ []) c.new.ensures in
+    let queue : y.queue ≡ m ∷ [] = c.in_ok-push.ensures.ok ∙ ap (λ (q : List Message). q ++ c.in_ok-parcel.parcel ∷ []) c.new.ensures ∙ ap (λ (x : Message). x ∷ []) c.in_ok-parcel.ensures in
     let k = placed c.service.result y c.in-Some.place (sym c.place_of.ensures ∙ c.in-Some.is) c.service.ensures.runnable c.service.ensures.service in
     let same = c.service.ensures.unchanged in
     let fit = c.in_ok-process.ensures.fit c.args.self.now.labels c.requires.sound in

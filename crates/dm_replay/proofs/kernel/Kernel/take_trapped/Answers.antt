@@ -15,23 +15,23 @@ pub returns-in-Plain-clause-gives : goal.returns-in-Plain-clause-gives
 returns-in-Plain-clause-gives c = λ b.
     traps_not (one_kernel b c.args.self.now) c.args.pid c.in_ok-process.process c.step.new.regs c.step.new.cells (c.in_ok-process.ensures.gives b) c.in-Plain.ensures.row
 
-pub call-called-requires-clause-lawful : goal.call-called-requires-clause-lawful
-call-called-requires-clause-lawful c =
+pub call-requires-clause-lawful : goal.call-requires-clause-lawful
+call-requires-clause-lawful c =
     calls_fit c.args.self.now.labels c.in-Call.number c.args.pid c.in_ok-process.process c.step.new.regs c.step.new.cells (c.in_ok-process.ensures.fit c.args.self.now.labels c.requires.sound) c.in-Call.ensures.row
 
-pub call-called-requires-clause-counts : goal.call-called-requires-clause-counts
-call-called-requires-clause-counts c =
+pub call-requires-clause-counts : goal.call-requires-clause-counts
+call-requires-clause-counts c =
     let f = c.in_ok-process.ensures.fit c.args.self.now.labels c.requires.sound in omega (arith, f.sent, c.requires.room)
 
-pub returns-in-Call-clause-gives : goal.returns-in-Call-clause-gives
-returns-in-Call-clause-gives c = λ b.
-    traps_call (one_kernel b c.args.self.now) c.args.pid c.in_ok-process.process c.call-called.new.process c.in-Call.number c.step.new.regs c.step.new.cells c.call-called.result (c.in_ok-process.ensures.gives b) c.in-Call.ensures.row
-    (c.in_ok-process.ensures.fit c.args.self.now.labels c.requires.sound).pid c.call-called.ensures.plain
+pub returns-in_ok-called-in-Call-clause-gives : goal.returns-in_ok-called-in-Call-clause-gives
+returns-in_ok-called-in-Call-clause-gives c = λ b.
+    traps_call (one_kernel b c.args.self.now) c.args.pid c.in_ok-process.process c.call.new.process c.in-Call.number c.step.new.regs c.step.new.cells c.in_ok-called-in-Call.called (c.in_ok-process.ensures.gives b) c.in-Call.ensures.row
+    (c.in_ok-process.ensures.fit c.args.self.now.labels c.requires.sound).pid c.in_ok-called-in-Call.ensures.plain
 
-pub returns-in-Call-clause-fit : goal.returns-in-Call-clause-fit
-returns-in-Call-clause-fit c =
-    called_fits c.args.self.now.labels 0 c.in-Call.number c.args.pid c.in_ok-process.process c.call-called.new.process c.step.new.regs c.step.new.cells (c.in_ok-process.ensures.fit c.args.self.now.labels c.requires.sound)
-    c.call-called.ensures.process c.call-called.ensures.lawful
+pub returns-in_ok-called-in-Call-clause-fit : goal.returns-in_ok-called-in-Call-clause-fit
+returns-in_ok-called-in-Call-clause-fit c =
+    called_fits c.args.self.now.labels 0 c.in-Call.number c.args.pid c.in_ok-process.process c.call.new.process c.step.new.regs c.step.new.cells (c.in_ok-process.ensures.fit c.args.self.now.labels c.requires.sound)
+    c.in_ok-called-in-Call.ensures.process c.in_ok-called-in-Call.ensures.lawful
 
 pub returns-in-Fault-clause-gives : goal.returns-in-Fault-clause-gives
 returns-in-Fault-clause-gives c = λ b.
@@ -42,5 +42,5 @@ pub returns-in-Fault-clause-fit : goal.returns-in-Fault-clause-fit
 returns-in-Fault-clause-fit c =
     fault_fits c.args.self.now.labels c.in-Fault.fault c.args.pid c.in_ok-process.process c.step.new.regs c.step.new.cells (c.in_ok-process.ensures.fit c.args.self.now.labels c.requires.sound) c.in-Fault.ensures.row
 
-pub returns-in-Call-clause-said : goal.returns-in-Call-clause-said
-returns-in-Call-clause-said c = call_said c.call-called.new.process c.call-called.result _ c.in-Call.number c.call-called.ensures.plain
+pub returns-in_ok-called-in-Call-clause-said : goal.returns-in_ok-called-in-Call-clause-said
+returns-in_ok-called-in-Call-clause-said c = call_said c.call.new.process c.in_ok-called-in-Call.called _ c.in-Call.number c.in_ok-called-in-Call.ensures.plain

@@ -1,7 +1,7 @@
 use Rattle.std.specs.Prelude.{slice_index_or}
 use Rattle.dm_process.proofs.Names.{◌≡◌, ℕ, ◌<◌, ◌≤◌, true}
 use Rattle.dm_process.specs.Mail.{on_mask}
-use Rattle.dm_process.proofs.channels.passed_by.Given as goal
+use Rattle.dm_process.proofs.channels.least.Given as goal
 
 abbrev pub invariant-loop-channel : goal.invariant-loop-channel
 invariant-loop-channel l = record {
