@@ -25,16 +25,19 @@ pub use Rattle.dm_asm.specs.Forms.{shape_of}
 unfoldable pub use Rattle.dm_asm.specs.Forms.{form_of}
 unfoldable pub use Rattle.dm_asm.specs.Labels.{place_in}
 pub use Rattle.dm_asm.specs.Lines.{is_semicolon, without_comment}
-unfoldable pub use Rattle.dm_asm.specs.Numbers.{literal_value}
-pub use Rattle.dm_asm.specs.Operands.{wanted_number}
-unfoldable pub use Rattle.dm_asm.specs.Operands.{distance_of, fields, number_operand, operand_value, register, target, value}
-pub use Rattle.dm_asm.specs.Places.{behind_label, first_of, form_size, label_of_words, place_from, statement_size}
-unfoldable pub use Rattle.dm_asm.specs.Places.{has_label, line_size}
+unfoldable pub use Rattle.dm_asm.specs.Numbers.{call_named, literal_value}
+pub use Rattle.dm_asm.specs.Numbers.{is_multiple}
+pub use Rattle.dm_asm.specs.Operands.{wanted_multiple, wanted_number}
+unfoldable pub use Rattle.dm_asm.specs.Operands.{call_operand, call_value, distance_of, fields, multiple, number_operand, operand_value, register, target, value}
+pub use Rattle.dm_asm.specs.Places.{behind_label, first_of, form_size, label_of_words, padding_size, place_from, statement_size, text_size}
+unfoldable pub use Rattle.dm_asm.specs.Places.{has_label, line_size, padding}
 pub use Rattle.dm_asm.specs.Refusals.{bytes_behind, why_code, ◌>>=◌}
 pub use Rattle.dm_asm.specs.Statements.{form_bytes, instruction_bytes, is_twice, takes_operands}
 unfoldable pub use Rattle.dm_asm.specs.Statements.{line_bytes, listed_bytes, statement_bytes}
+pub use Rattle.dm_asm.specs.Texts.{text_operand}
+unfoldable pub use Rattle.dm_asm.specs.Texts.{text_behind, text_in}
 pub use Rattle.dm_asm.specs.declared.forms.Form.{Form}
-pub use Rattle.dm_asm.specs.declared.forms.Form.TheVariants.{Byte, Instruction, Word, Zero}
+pub use Rattle.dm_asm.specs.declared.forms.Form.TheVariants.{Align, Ascii, Byte, Instruction, Word, Zero}
 pub use Rattle.dm_asm.specs.declared.forms.Shape.{Shape}
 pub use Rattle.dm_asm.specs.declared.forms.Shape.TheVariants.{Access, Branch, Call, Jump, RegisterValue, ThreeRegisters, TwoRegisters}
 pub use Rattle.dm_asm.specs.declared.labels.Labels.{Labels}
@@ -42,4 +45,4 @@ pub use Rattle.dm_asm.specs.declared.labels.Place.{Place}
 pub use Rattle.dm_asm.specs.declared.refusals.AssembleError.{AssembleError}
 pub use Rattle.dm_asm.specs.declared.refusals.AssembleError.TheVariants.{Fault, NoMemory}
 pub use Rattle.dm_asm.specs.declared.refusals.Why.{Why}
-pub use Rattle.dm_asm.specs.declared.refusals.Why.TheVariants.{LabelTwice, OperandCount, OutOfRange, TooLong, UnknownWord}
+pub use Rattle.dm_asm.specs.declared.refusals.Why.TheVariants.{BadNumber, LabelTwice, OperandCount, OutOfRange, TooLong, UnknownWord}

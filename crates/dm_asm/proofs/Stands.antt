@@ -27,10 +27,10 @@ longer-by image new size (Ok bytes) e h =
     record { goes = record { more = bytes; all = same }; length_is = ap length same ∙ length-append image bytes ∙ ap (λ k. length image + k) e }
 longer-by image new size (Err why) e h = absurd (cc)
 
-longer : (places : List ℕ → Option Place) (number : ℕ) (image line new : List ℕ) → with_line places number image line ≡ Ok new → Longer image new (line_size line)
+longer : (places : List ℕ → Option Place) (number : ℕ) (image line new : List ℕ) → with_line places number image line ≡ Ok new → Longer image new (line_size (length image) line)
 unfolding with_line
 longer places number image line new h =
-    longer-by image new (line_size line) (line_bytes places number (length image) line) (line-length places number (length image) line) h
+    longer-by image new (line_size (length image) line) (line_bytes places number (length image) line) (line-length places number (length image) line) h
 
 -- what a first line gives, where the lines give an image
 first-gives : (number : ℕ) (r : Result (List ℕ) Why) (f : List ℕ → Result (List ℕ) (ℕ × Why)) (whole : List ℕ) → from_line number r f ≡ Ok whole → (new : List ℕ) × (r ≡ Ok new) × (f new ≡ Ok whole)
@@ -90,7 +90,7 @@ found places number image [] whole name place h p = absurd (cc)
 found places number image (l ∷ ls) whole name place h p =
     let (new, e, rest) = first-gives number (with_line places number image l) (λ new. with_lines places (number + 1) new ls) whole h in
     let size = (longer places number image l new e).length_is in
-    here-or-later (Found places number image (l ∷ ls) whole) (has_label l name) (record { line = number; address = length image }) place (place_from (number + 1) (length image + line_size l) ls name)
+    here-or-later (Found places number image (l ∷ ls) whole) (has_label l name) (record { line = number; address = length image }) place (place_from (number + 1) (length image + line_size (length image) l) ls name)
     (no-more places number image (l ∷ ls) whole h)
     (λ after. one-more e (found places (number + 1) new ls whole name place rest (ap (λ at. place_from (number + 1) at ls name) size ∙ after)))
     p

@@ -1,6 +1,6 @@
 -- The definitions, computed on worked texts.
 use Rattle.dm_asm.proofs.Names.{◌≡◌, ℕ, Ok, Err, Result, List, [], ◌∷◌, ◌++◌, map, codes, refl, Why, assembled, places_of, with_line, form_of, source_lines, words_between, literal_value, distance_of, fields, number_operand, register, target}
-use Rattle.dm_asm.proofs.Names.{value, operand_value, has_label, line_size, why_code, line_bytes, listed_bytes, statement_bytes}
+use Rattle.dm_asm.proofs.Names.{padding, multiple, text_behind, text_in, call_named, call_value, call_operand, value, operand_value, has_label, line_size, why_code, line_bytes, listed_bytes, statement_bytes}
 
 -- the line and the number of a refusal; 0 and 0 where there is an image
 abbrev refusal : Result (List ℕ) (ℕ × Why) → ℕ × ℕ
@@ -43,7 +43,19 @@ images =
     (codes "jmp 515", (16 ∷ 0 ∷ 2 ∷ 3 ∷ [])) ∷
     (codes "l: bne r2 r3 l", (18 ∷ 2 ∷ 3 ∷ 255 ∷ [])) ∷
     (codes "bltu r3 r4 l" ++ 10 ∷ codes "l:", (19 ∷ 3 ∷ 4 ∷ 0 ∷ [])) ∷
-    (codes "sys 8", (20 ∷ 0 ∷ 0 ∷ 8 ∷ [])) ∷ []
+    (codes "sys 8", (20 ∷ 0 ∷ 0 ∷ 8 ∷ [])) ∷
+    (codes "sys EXIT", (20 ∷ 0 ∷ 0 ∷ 1 ∷ [])) ∷
+    (codes "sys OUT", (20 ∷ 0 ∷ 0 ∷ 2 ∷ [])) ∷
+    (codes "sys MAKE", (20 ∷ 0 ∷ 0 ∷ 3 ∷ [])) ∷
+    (codes "sys COPY", (20 ∷ 0 ∷ 0 ∷ 4 ∷ [])) ∷
+    (codes "sys DROP", (20 ∷ 0 ∷ 0 ∷ 5 ∷ [])) ∷
+    (codes "sys SEND", (20 ∷ 0 ∷ 0 ∷ 6 ∷ [])) ∷
+    (codes "sys RECEIVE", (20 ∷ 0 ∷ 0 ∷ 7 ∷ [])) ∷
+    (codes "sys MOVE", (20 ∷ 0 ∷ 0 ∷ 8 ∷ [])) ∷
+    (codes ".byte 9" ++ 10 ∷ codes ".align 4" ++ 10 ∷ codes "b: .word b" ++ 10 ∷ codes ".align 4" ++ 10 ∷ codes ".align 1" ++ 10 ∷ codes ".align 0x3", (9 ∷ 0 ∷ 0 ∷ 0 ∷ 0 ∷ 0 ∷ 0 ∷ 4 ∷ 0 ∷ [])) ∷
+    (codes ".align 65536", []) ∷
+    (codes "t: .ascii " ++ 34 ∷ codes "a,  ~!" ++ 34 ∷ codes " , ; x" ++ 34 ∷ 10 ∷ codes "u: .byte 7" ++ 10 ∷ codes ".align 2" ++ 10 ∷ codes ".word u", (97 ∷ 44 ∷ 32 ∷ 32 ∷ 126 ∷ 33 ∷ 7 ∷ 0 ∷ 0 ∷ 0 ∷ 0 ∷ 6 ∷ [])) ∷
+    (codes ".ascii " ++ 34 ∷ 34 ∷ 13 ∷ [], []) ∷ []
 
 -- texts that are refused, and some that are just taken
 abbrev refused : List (List ℕ × (ℕ × ℕ))
@@ -77,6 +89,12 @@ refused =
     (codes "li r1 65535", (0, 0)) ∷
     (codes "li r1 65536", (1, 4)) ∷
     (codes "li r1 99999999999999999999999999", (1, 4)) ∷
+    (codes "sys send", (1, 3)) ∷
+    (codes "sys SEN", (1, 3)) ∷
+    (codes "sys SENDS", (1, 3)) ∷
+    (codes "sys SEND 1", (1, 7)) ∷
+    (codes "SEND", (1, 1)) ∷
+    (codes "jmp SEND", (1, 5)) ∷
     (codes "sys 255", (0, 0)) ∷
     (codes "sys 256", (1, 4)) ∷
     (codes "lw r1 r1 256", (1, 4)) ∷
@@ -89,12 +107,28 @@ refused =
     (codes "l: .zero 512" ++ 10 ∷ codes "beq r0 r0 l", (2, 4)) ∷
     (codes "beq r0 r0 l" ++ 10 ∷ codes ".byte 1" ++ 10 ∷ codes "l:", (1, 4)) ∷
     (codes "li r1 l" ++ 10 ∷ codes ".zero 65532" ++ 10 ∷ codes "l:", (1, 4)) ∷
-    (codes ".zero 65537", (1, 4)) ∷ []
+    (codes ".zero 65537", (1, 4)) ∷
+    (codes ".align 0", (1, 4)) ∷
+    (codes ".align 65537", (1, 4)) ∷
+    (codes ".align x", (1, 3)) ∷
+    (codes ".align", (1, 7)) ∷
+    (codes ".align 4 4", (1, 7)) ∷
+    (codes ".ascii", (1, 7)) ∷
+    (codes ".ascii x", (1, 3)) ∷
+    (codes ".ascii x " ++ 34 ∷ codes "y" ++ 34 ∷ [], (1, 3)) ∷
+    (codes ".ascii " ++ 34 ∷ [], (1, 3)) ∷
+    (codes ".ascii " ++ 34 ∷ codes "a b", (1, 3)) ∷
+    (codes ".ascii " ++ 34 ∷ codes "a;b" ++ 34 ∷ [], (1, 3)) ∷
+    (codes ".ascii " ++ 34 ∷ codes "a" ++ 34 ∷ codes " 1", (1, 3)) ∷
+    (codes ".ascii " ++ 34 ∷ codes "a" ++ 34 ∷ codes "b" ++ 34 ∷ [], (1, 3)) ∷
+    (codes ".ascii " ++ 34 ∷ 9 ∷ 34 ∷ [], (1, 3)) ∷
+    (codes ".ascii " ++ 34 ∷ 127 ∷ 34 ∷ [], (1, 3)) ∷
+    (codes ".ascii" ++ 34 ∷ codes "a" ++ 34 ∷ [], (1, 1)) ∷ []
 
 pub images_are_these : map (λ row. assembled row.0) images ≡ map (λ row. Ok row.1) images
-unfolding assembled places_of with_line form_of source_lines words_between literal_value operand_value distance_of register number_operand value target fields line_size has_label listed_bytes statement_bytes line_bytes
+unfolding padding multiple text_behind text_in assembled places_of with_line form_of source_lines words_between literal_value call_named call_value call_operand operand_value distance_of register number_operand value target fields line_size has_label listed_bytes statement_bytes line_bytes
 images_are_these = refl
 
 pub refused_so : map (λ row. refusal (assembled row.0)) refused ≡ map (λ row. row.1) refused
-unfolding assembled places_of with_line form_of source_lines words_between literal_value operand_value distance_of register number_operand value target fields line_size has_label listed_bytes statement_bytes line_bytes
+unfolding padding multiple text_behind text_in assembled places_of with_line form_of source_lines words_between literal_value call_named call_value call_operand operand_value distance_of register number_operand value target fields line_size has_label listed_bytes statement_bytes line_bytes
 refused_so = refl

@@ -6,7 +6,7 @@ use Rattle.dm_processor.specs.Opcodes.{opcodes, opcode_word}
 use Rattle.dm_processor.specs.declared.opcodes.Opcode.{Opcode}
 use Rattle.dm_processor.specs.declared.opcodes.Opcode.TheVariants.{Li, Lih, Mov, Lw, Sw, Lb, Sb, Jmp, Beq, Bne, Bltu, Sys}
 use Rattle.dm_asm.specs.declared.forms.Form.{Form}
-use Rattle.dm_asm.specs.declared.forms.Form.TheVariants.{Instruction, Word, Byte, Zero}
+use Rattle.dm_asm.specs.declared.forms.Form.TheVariants.{Instruction, Word, Byte, Zero, Align, Ascii}
 use Rattle.dm_asm.specs.declared.forms.Shape.{Shape}
 use Rattle.dm_asm.specs.declared.forms.Shape.TheVariants.{RegisterValue, TwoRegisters, ThreeRegisters, Access, Jump, Branch, Call}
 
@@ -15,7 +15,9 @@ unfoldable pub form_of : List ℕ → Option Form
 form_of word =
     if bytes_eq word (codes ".word") then Some Word
     else (if bytes_eq word (codes ".byte") then Some Byte
-    else (if bytes_eq word (codes ".zero") then Some Zero else option_map Instruction (find (λ op. bytes_eq word (opcode_word op)) opcodes)))
+    else (if bytes_eq word (codes ".zero") then Some Zero
+    else (if bytes_eq word (codes ".align") then Some Align
+    else (if bytes_eq word (codes ".ascii") then Some Ascii else option_map Instruction (find (λ op. bytes_eq word (opcode_word op)) opcodes)))))
 
 -- what the operands of an instruction are
 abbrev pub shape_of : Opcode → Shape

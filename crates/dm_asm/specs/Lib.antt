@@ -8,3 +8,4 @@ pub mod Operands
 pub mod Places
 pub mod Refusals
 pub mod Statements
+pub mod Texts

@@ -1,6 +1,7 @@
 -- Numbers, registers and names as they are written.
-use Rattle.std.specs.Prelude.{ℕ, Bool, ◌==◌, ◌&&◌, ◌||◌, nat_lt, nat_le, ◌+◌, ◌-◌, if◌then◌else◌, not, Option, Some, None, List, [], ◌∷◌, length, drop, slice_index}
+use Rattle.std.specs.Prelude.{ℕ, Bool, ◌==◌, ◌&&◌, ◌||◌, nat_lt, nat_le, ◌+◌, ◌-◌, if◌then◌else◌, not, Option, Some, None, List, [], ◌∷◌, codes, length, drop, slice_index}
 use Rattle.std.specs.List.{list_all}
+use Rattle.std.specs.Str.{bytes_eq}
 use Rattle.dm_reading.specs.Digits.{digits_after, is_digit}
 use Rattle.dm_reading.specs.Numbers.{number_after}
 use Rattle.dm_reading.specs.declared.numbers.Base.TheVariants.{Sixteen}
@@ -33,3 +34,19 @@ is_label_name word =
 abbrev pub begins_name : List ℕ → Bool
 begins_name word =
     let c = slice_index word 0 in (nat_le 97 c && nat_le c 122) || (nat_le 65 c && nat_le c 90) || (c == 95)
+
+-- a number that .align takes: 1 to 65,536
+abbrev pub is_multiple : ℕ → Bool
+is_multiple n = nat_le 1 n && nat_le n 65536
+
+-- the number of the call that a word names
+unfoldable pub call_named : List ℕ → Option ℕ
+call_named word =
+    if bytes_eq word (codes "EXIT") then Some 1
+    else (if bytes_eq word (codes "OUT") then Some 2
+    else (if bytes_eq word (codes "MAKE") then Some 3
+    else (if bytes_eq word (codes "COPY") then Some 4
+    else (if bytes_eq word (codes "DROP") then Some 5
+    else (if bytes_eq word (codes "SEND") then Some 6
+    else (if bytes_eq word (codes "RECEIVE") then Some 7
+    else (if bytes_eq word (codes "MOVE") then Some 8 else None)))))))

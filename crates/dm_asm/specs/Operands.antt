@@ -1,11 +1,11 @@
 -- The values of operands, one after the other.
-use Rattle.std.specs.Prelude.{ℕ, ◌==◌, ◌&&◌, nat_lt, nat_le, ◌+◌, ◌-◌, ◌/◌, ◌%◌, if◌then◌else◌, Option, ok_or, Result, Ok, Err, List, [], ◌∷◌}
+use Rattle.std.specs.Prelude.{ℕ, ◌==◌, ◌&&◌, nat_lt, nat_le, ◌+◌, ◌-◌, ◌/◌, ◌%◌, if◌then◌else◌, Option, None, Some, ok_or, Result, Ok, Err, List, [], ◌∷◌}
 use Rattle.dm_asm.specs.declared.forms.Shape.{Shape}
 use Rattle.dm_asm.specs.declared.forms.Shape.TheVariants.{RegisterValue, TwoRegisters, ThreeRegisters, Access, Jump, Branch, Call}
 use Rattle.dm_asm.specs.declared.labels.Place.{Place}
 use Rattle.dm_asm.specs.declared.refusals.Why.{Why}
 use Rattle.dm_asm.specs.declared.refusals.Why.TheVariants.{BadRegister, BadNumber, OutOfRange, UnknownLabel, OperandCount}
-use Rattle.dm_asm.specs.Numbers.{begins_name, literal_value, register_of}
+use Rattle.dm_asm.specs.Numbers.{begins_name, call_named, is_multiple, literal_value, register_of}
 use Rattle.dm_asm.specs.Refusals.{◌>>=◌}
 
 -- a number that is at most so large
@@ -16,10 +16,23 @@ within_range most n = if nat_le n most then Ok n else Err OutOfRange
 abbrev pub wanted_number : ℕ → Option ℕ → Result ℕ Why
 wanted_number most n = ok_or n BadNumber >>= within_range most
 
+-- a number of which an address is to be a multiple
+abbrev pub wanted_multiple : Option ℕ → Result ℕ Why
+wanted_multiple n = ok_or n BadNumber >>= λ m. if is_multiple m then Ok m else Err OutOfRange
+
 -- a number or a label
 unfoldable pub operand_value : (List ℕ → Option Place) → ℕ → List ℕ → Result ℕ Why
 operand_value places most word =
     if begins_name word then ok_or (places word) UnknownLabel >>= (λ place. within_range most place.address) else wanted_number most (literal_value word)
+
+-- the number of a call that is named, or else what follows
+abbrev pub named_or : Option ℕ → Result ℕ Why → Result ℕ Why
+named_or None other = other
+named_or (Some n) other = Ok n
+
+-- the number of a call, or the name of one
+unfoldable pub call_value : List ℕ → Result ℕ Why
+call_value word = named_or (call_named word) (wanted_number 255 (literal_value word))
 
 -- how many words it is from behind an instruction to a target, as a byte: -128 to 127
 abbrev pub distance : ℕ → ℕ → Result ℕ Why
@@ -47,6 +60,10 @@ register ws = next_operand (λ w. ok_or (register_of w) BadRegister) ws
 unfoldable pub number_operand : ℕ → List (List ℕ) → Result (ℕ × List (List ℕ)) Why
 number_operand most ws = next_operand (λ w. wanted_number most (literal_value w)) ws
 
+-- a number of which an address is to be a multiple
+unfoldable pub multiple : List (List ℕ) → Result (ℕ × List (List ℕ)) Why
+multiple ws = next_operand (λ w. wanted_multiple (literal_value w)) ws
+
 -- a number or a label that is at most so large
 unfoldable pub value : (List ℕ → Option Place) → ℕ → List (List ℕ) → Result (ℕ × List (List ℕ)) Why
 value places most ws = next_operand (operand_value places most) ws
@@ -54,6 +71,10 @@ value places most ws = next_operand (operand_value places most) ws
 -- the distance to a label
 unfoldable pub target : (List ℕ → Option Place) → ℕ → List (List ℕ) → Result (ℕ × List (List ℕ)) Why
 target places at ws = next_operand (distance_of places at) ws
+
+-- a call
+unfoldable pub call_operand : List (List ℕ) → Result (ℕ × List (List ℕ)) Why
+call_operand ws = next_operand call_value ws
 
 -- the three last bytes of an instruction at an address
 unfoldable pub fields : (List ℕ → Option Place) → ℕ → Shape → List (List ℕ) → Result (List ℕ) Why
@@ -84,5 +105,5 @@ fields places at Branch ws = do
   d ← target places at b.1
   Ok (a.0 ∷ b.0 ∷ d.0 ∷ [])
 fields places at Call ws = do
-  n ← number_operand 255 ws
+  n ← call_operand ws
   Ok (0 ∷ 0 ∷ n.0 ∷ [])

@@ -1,13 +1,14 @@
 -- The lines and addresses of the labels.
-use Rattle.std.specs.Prelude.{ℕ, Bool, false, ◌==◌, ◌&&◌, nat_le, ◌+◌, ◌-◌, if◌then◌else◌, Option, Some, None, is_some, unwrap_or, option_map, List, [], ◌∷◌, length, take, slice_index}
+use Rattle.std.specs.Prelude.{ℕ, Bool, false, ◌%◌, ◌==◌, ◌&&◌, nat_le, ◌+◌, ◌-◌, if◌then◌else◌, Option, Some, None, is_some, unwrap_or, option_map, List, [], ◌∷◌, length, take, slice_index}
 use Rattle.std.specs.Str.{bytes_eq}
 use Rattle.dm_reading.specs.Words.{source_words}
 use Rattle.dm_asm.specs.declared.forms.Form.{Form}
-use Rattle.dm_asm.specs.declared.forms.Form.TheVariants.{Instruction, Word, Byte, Zero}
+use Rattle.dm_asm.specs.declared.forms.Form.TheVariants.{Instruction, Word, Byte, Zero, Align, Ascii}
 use Rattle.dm_asm.specs.declared.labels.Place.{Place}
 use Rattle.dm_asm.specs.Forms.{form_of}
 use Rattle.dm_asm.specs.Lines.{without_comment}
-use Rattle.dm_asm.specs.Numbers.{is_label_name, literal_value}
+use Rattle.dm_asm.specs.Numbers.{is_label_name, is_multiple, literal_value}
+use Rattle.dm_asm.specs.Texts.{text_in, text_operand}
 
 -- the label that a word is with its colon
 abbrev pub label_in : List ℕ → Option (List ℕ)
@@ -30,22 +31,37 @@ abbrev pub zeros_size : List (List ℕ) → ℕ
 zeros_size (word ∷ []) = unwrap_or (option_map (λ n. if nat_le n 65536 then n else 0) (literal_value word)) 0
 zeros_size _ = 0
 
--- how many bytes a line counts whose word is this, with these operands
-abbrev pub form_size : Option Form → List (List ℕ) → ℕ
-form_size None ws = 0
-form_size (Some (Instruction op)) ws = 4
-form_size (Some Word) ws = 4
-form_size (Some Byte) ws = length ws
-form_size (Some Zero) ws = zeros_size ws
+-- how many bytes it is from an address to the next multiple of a number
+unfoldable pub padding : ℕ → ℕ → ℕ
+padding at n = if at % n == 0 then 0 else n - at % n
 
--- how many bytes a statement counts
-abbrev pub statement_size : List (List ℕ) → ℕ
-statement_size [] = 0
-statement_size (w ∷ ws) = form_size (form_of w) ws
+-- how many bytes the operand of .align asks for at an address, if that is a good number
+abbrev pub padding_size : ℕ → List (List ℕ) → ℕ
+padding_size at (word ∷ []) = unwrap_or (option_map (λ n. if is_multiple n then padding at n else 0) (literal_value word)) 0
+padding_size at _ = 0
 
--- how many bytes a line counts
-unfoldable pub line_size : List ℕ → ℕ
-line_size line = statement_size (behind_label (source_words (without_comment line)))
+-- how many bytes the text of .ascii has, if it is a good one
+abbrev pub text_size : Option (List ℕ) → ℕ
+text_size text = length (unwrap_or text [])
+
+-- how many bytes a line counts at an address whose word is this, with this text and these operands
+abbrev pub form_size : ℕ → Option (List ℕ) → Option Form → List (List ℕ) → ℕ
+form_size at text None ws = 0
+form_size at text (Some (Instruction op)) ws = 4
+form_size at text (Some Word) ws = 4
+form_size at text (Some Byte) ws = length ws
+form_size at text (Some Zero) ws = zeros_size ws
+form_size at text (Some Align) ws = padding_size at ws
+form_size at text (Some Ascii) ws = text_size (text_operand text ws)
+
+-- how many bytes a statement counts at an address, in a line with this text
+abbrev pub statement_size : ℕ → Option (List ℕ) → List (List ℕ) → ℕ
+statement_size at text [] = 0
+statement_size at text (w ∷ ws) = form_size at text (form_of w) ws
+
+-- how many bytes a line counts at an address
+unfoldable pub line_size : ℕ → List ℕ → ℕ
+line_size at line = statement_size at (text_in (without_comment line)) (behind_label (source_words (without_comment line)))
 
 -- whether a line has this label
 unfoldable pub has_label : List ℕ → List ℕ → Bool
@@ -60,4 +76,4 @@ first_of (Some place) other = Some place
 abbrev pub place_from : ℕ → ℕ → List (List ℕ) → List ℕ → Option Place
 place_from number at [] name = None
 place_from number at (l ∷ ls) name =
-    if has_label l name then Some (record { line = number; address = at }) else place_from (number + 1) (at + line_size l) ls name
+    if has_label l name then Some (record { line = number; address = at }) else place_from (number + 1) (at + line_size at l) ls name

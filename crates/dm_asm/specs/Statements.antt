@@ -5,16 +5,17 @@ use Rattle.dm_processor.specs.declared.opcodes.Opcode.{Opcode}
 use Rattle.dm_processor.specs.Opcodes.{opcode_number}
 use Rattle.dm_processor.specs.Instructions.{word_bytes}
 use Rattle.dm_asm.specs.declared.forms.Form.{Form}
-use Rattle.dm_asm.specs.declared.forms.Form.TheVariants.{Instruction, Word, Byte, Zero}
+use Rattle.dm_asm.specs.declared.forms.Form.TheVariants.{Instruction, Word, Byte, Zero, Align, Ascii}
 use Rattle.dm_asm.specs.declared.labels.Place.{Place}
 use Rattle.dm_asm.specs.declared.refusals.Why.{Why}
-use Rattle.dm_asm.specs.declared.refusals.Why.TheVariants.{UnknownWord, LabelTwice, OperandCount}
+use Rattle.dm_asm.specs.declared.refusals.Why.TheVariants.{UnknownWord, BadNumber, LabelTwice, OperandCount}
 use Rattle.dm_asm.specs.Forms.{form_of, operand_count, shape_of}
 use Rattle.dm_asm.specs.Lines.{without_comment}
 use Rattle.dm_asm.specs.Numbers.{literal_value}
-use Rattle.dm_asm.specs.Operands.{fields, number_operand, value, wanted_number}
-use Rattle.dm_asm.specs.Places.{behind_label, label_of_words}
+use Rattle.dm_asm.specs.Operands.{fields, multiple, number_operand, value, wanted_number}
+use Rattle.dm_asm.specs.Places.{behind_label, label_of_words, padding}
 use Rattle.dm_asm.specs.Refusals.{◌>>=◌}
+use Rattle.dm_asm.specs.Texts.{text_in, text_operand}
 
 -- the four bytes of an instruction
 abbrev pub instruction_bytes : (List ℕ → Option Place) → ℕ → Opcode → List (List ℕ) → Result (List ℕ) Why
@@ -30,16 +31,20 @@ listed_bytes (w ∷ ws) = do
   others ← listed_bytes ws
   Ok (first ∷ others)
 
--- the bytes of an instruction or directive
-abbrev pub form_bytes : (List ℕ → Option Place) → ℕ → Form → List (List ℕ) → Result (List ℕ) Why
-form_bytes places at (Instruction op) ws = instruction_bytes places at op ws
-form_bytes places at Word ws = do
+-- the bytes of an instruction or directive, in a line with this text
+abbrev pub form_bytes : (List ℕ → Option Place) → ℕ → Option (List ℕ) → Form → List (List ℕ) → Result (List ℕ) Why
+form_bytes places at text (Instruction op) ws = instruction_bytes places at op ws
+form_bytes places at text Word ws = do
   w ← value places (2 ^ 32 - 1) ws
   Ok (word_bytes w.0)
-form_bytes places at Byte ws = listed_bytes ws
-form_bytes places at Zero ws = do
+form_bytes places at text Byte ws = listed_bytes ws
+form_bytes places at text Zero ws = do
   n ← number_operand 65536 ws
   Ok (replicate n.0 0)
+form_bytes places at text Align ws = do
+  n ← multiple ws
+  Ok (replicate (padding at n.0) 0)
+form_bytes places at text Ascii ws = ok_or (text_operand text ws) BadNumber
 
 -- whether an instruction or directive can have so many operands
 abbrev pub takes_operands : Form → ℕ → Bool
@@ -47,14 +52,16 @@ takes_operands (Instruction op) n = n == operand_count (shape_of op)
 takes_operands Word n = n == 1
 takes_operands Byte n = nat_lt 0 n
 takes_operands Zero n = n == 1
+takes_operands Align n = n == 1
+takes_operands Ascii n = nat_lt 0 n
 
--- the bytes of what stands behind a label, if any; the label may be defined before
-unfoldable pub statement_bytes : (List ℕ → Option Place) → ℕ → Bool → List (List ℕ) → Result (List ℕ) Why
-statement_bytes places at twice [] = if twice then Err LabelTwice else Ok []
-statement_bytes places at twice (w ∷ ws) =
+-- the bytes of what stands behind a label, if any, in a line with this text; the label may be defined before
+unfoldable pub statement_bytes : (List ℕ → Option Place) → ℕ → Bool → Option (List ℕ) → List (List ℕ) → Result (List ℕ) Why
+statement_bytes places at twice text [] = if twice then Err LabelTwice else Ok []
+statement_bytes places at twice text (w ∷ ws) =
     ok_or (form_of w) UnknownWord >>= λ form.
     if twice then Err LabelTwice
-    else (if takes_operands form (length ws) then form_bytes places at form ws else Err OperandCount)
+    else (if takes_operands form (length ws) then form_bytes places at text form ws else Err OperandCount)
 
 -- whether a line's label, if any, is defined before
 abbrev pub is_twice : (List ℕ → Option Place) → ℕ → Option (List ℕ) → Bool
@@ -62,6 +69,6 @@ is_twice places line label = unwrap_or (option_map (λ p. not (p.line == line)) 
 
 -- the bytes of a line at an address
 unfoldable pub line_bytes : (List ℕ → Option Place) → ℕ → ℕ → List ℕ → Result (List ℕ) Why
-line_bytes places line at text =
-    let ws = source_words (without_comment text) in
-    statement_bytes places at (is_twice places line (label_of_words ws)) (behind_label ws)
+line_bytes places line at bytes =
+    let ws = source_words (without_comment bytes) in
+    statement_bytes places at (is_twice places line (label_of_words ws)) (text_in (without_comment bytes)) (behind_label ws)

@@ -39,9 +39,10 @@ fn add_line(labels: &Labels, image: &mut Vec<u8>, number: usize, line: &[u8]) ->
     ensures exact { Gives (λ _. image.new.items) result (with_line (place_in labels.now) number image.old.items line.now) }
     ensures most { OnOk result (length image.new.items ≤ MOST_MEMORY) }
 {
-    let (label, statement) = split_label(uncommented(line));
+    let line = uncommented(line);
+    let (label, statement) = split_label(line);
     let twice = defined_before(labels, number, label);
-    add_statement(labels, image, twice, statement)?;
+    add_statement(labels, image, twice, line, statement)?;
     if is_too_long(image.len()) {
         return Err(Stop::Fault(Why::TooLong));
     }

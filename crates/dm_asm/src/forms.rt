@@ -17,6 +17,10 @@ pub enum Form {
     Byte,
     /// `.zero`: zeros.
     Zero,
+    /// `.align`: zeros up to a multiple of a number.
+    Align,
+    /// `.ascii`: a text.
+    Ascii,
 }
 
 /// What the operands of an instruction are.
@@ -102,6 +106,10 @@ impl Form {
             Some(Form::Byte)
         } else if word == b".zero".as_slice() {
             Some(Form::Zero)
+        } else if word == b".align".as_slice() {
+            Some(Form::Align)
+        } else if word == b".ascii".as_slice() {
+            Some(Form::Ascii)
         } else {
             opcode_named(word).map(Form::Instruction)
         }

@@ -1,16 +1,18 @@
 //! Where labels stand.
-ghost use Rattle.std.specs.Prelude.{◌≡◌, ◌+◌, ℕ, List, IfOk, None, OnOk, Some, if◌then◌else◌};
+ghost use Rattle.std.specs.Prelude.{◌≡◌, ◌<◌, ◌≤◌, ◌+◌, ℕ, List, IfOk, None, OnOk, Some, if◌then◌else◌};
 ghost use Rattle.std.specs.Option.{option_copied};
 ghost use Rattle.std.specs.Str.{bytes_eq};
 ghost use Rattle.dm_reading.specs.Lines.{source_lines};
 ghost use Rattle.dm_reading.specs.Words.{source_words};
 ghost use Rattle.dm_asm.specs.Labels.{place_in};
 ghost use Rattle.dm_asm.specs.Lines.{without_comment};
-ghost use Rattle.dm_asm.specs.Places.{behind_label, first_of, has_label, label_in, label_of_words, line_size, place_from, statement_size, zeros_size};
+ghost use Rattle.dm_asm.specs.Places.{behind_label, first_of, has_label, label_in, label_of_words, line_size, padding, padding_size, place_from, statement_size, text_size, zeros_size};
+ghost use Rattle.dm_asm.specs.Texts.{text_in, text_operand};
 
 use crate::forms::Form;
 use crate::lines::uncommented;
 use crate::numbers::{is_label, number};
+use crate::texts::text_operand;
 use dm_memory::{NoMemory, insert};
 use dm_reading::{Gap, count_words, first_source_line, next_word};
 use std::alloc::Global;
@@ -89,7 +91,7 @@ pub fn split_label(line: &[u8]) -> (Option<&[u8]>, &[u8])
 }
 
 /// The label that a line defines, whatever stands behind it.
-fn defined_by(line: &[u8]) -> Option<&[u8]>
+pub(crate) fn defined_by(line: &[u8]) -> Option<&[u8]>
     ensures { option_copied result ≡ label_of_words (source_words (without_comment line.now)) }
 {
     let (label, _) = split_label(uncommented(line));
@@ -112,9 +114,46 @@ fn zeros_counted(operands: &[u8]) -> usize
     }
 }
 
-/// How many bytes a statement counts.
-fn statement_counted(statement: &[u8]) -> usize
-    ensures { result ≡ statement_size (source_words statement.now) }
+/// How many bytes it is from an address to the next multiple of a number.
+#[tactic(auto, unfolding(crate::specs::Places::padding))]
+pub fn padding(at: u128, multiple: u32) -> u32
+    requires { 0 < multiple }
+    ensures value { result ≡ padding at multiple }
+    ensures few { result ≤ multiple }
+{
+    let over = at % u128::from(multiple);
+    if over == 0 { 0 } else { multiple - over as u32 }
+}
+
+/// How many zeros the operands of `.align` ask for at an address, if they are good.
+fn padding_counted(at: u128, operands: &[u8]) -> usize
+    ensures { result ≡ padding_size at (source_words operands.now) }
+{
+    if count_words(operands, Gap::Separators) != 1 {
+        return 0;
+    }
+    match next_word(operands, Gap::Separators) {
+        Some((word, _)) => match number(word) {
+            Some(n) if n >= 1 && n <= 65_536 => padding(at, n as u32) as usize,
+            _ => 0,
+        },
+        None => 0,
+    }
+}
+
+/// How many bytes the text of `.ascii` has in a line, if it is a good one.
+fn text_counted(line: &[u8], operands: &[u8]) -> usize
+    ensures { result ≡ text_size (text_operand (text_in line.now) (source_words operands.now)) }
+{
+    match text_operand(line, operands) {
+        Some(text) => text.len(),
+        None => 0,
+    }
+}
+
+/// How many bytes a statement counts at an address, in a line without its comment.
+fn statement_counted(at: u128, line: &[u8], statement: &[u8]) -> usize
+    ensures { result ≡ statement_size at (text_in line.now) (source_words statement.now) }
 {
     match next_word(statement, Gap::Separators) {
         None => 0,
@@ -123,6 +162,8 @@ fn statement_counted(statement: &[u8]) -> usize
             Some(Form::Instruction(_) | Form::Word) => 4,
             Some(Form::Byte) => count_words(operands, Gap::Separators),
             Some(Form::Zero) => zeros_counted(operands),
+            Some(Form::Align) => padding_counted(at, operands),
+            Some(Form::Ascii) => text_counted(line, operands),
         },
     }
 }
@@ -154,7 +195,7 @@ impl<'t> Labels<'t> {
             labels.add_line(line, place)?;
             place = Place {
                 line: place.line + 1,
-                address: place.address + line_counted(line) as u128,
+                address: place.address + line_counted(place.address, line) as u128,
             };
             rest = behind;
         }
@@ -162,11 +203,12 @@ impl<'t> Labels<'t> {
     }
 }
 
-/// How many bytes a line counts.
+/// How many bytes a line counts at an address.
 #[tactic(auto, unfolding(crate::specs::Places::line_size))]
-fn line_counted(line: &[u8]) -> usize
-    ensures { result ≡ line_size line.now }
+pub(crate) fn line_counted(at: u128, line: &[u8]) -> usize
+    ensures { result ≡ line_size at line.now }
 {
-    let (_, statement) = split_label(uncommented(line));
-    statement_counted(statement)
+    let line = uncommented(line);
+    let (_, statement) = split_label(line);
+    statement_counted(at, line, statement)
 }

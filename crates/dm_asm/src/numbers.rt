@@ -1,7 +1,7 @@
 //! Numbers, registers and names as they are written.
 ghost use Rattle.std.specs.Prelude.{◌≡◌, ◌<◌, ◌^◌, IfSome, min, option_map};
 ghost use Rattle.std.specs.List.{list_all};
-ghost use Rattle.dm_asm.specs.Numbers.{begins_name, is_label_name, is_name_part, literal_value, register_of};
+ghost use Rattle.dm_asm.specs.Numbers.{begins_name, call_named, is_label_name, is_name_part, literal_value, register_of};
 
 use dm_reading::{Base, capped_number};
 
@@ -63,4 +63,30 @@ pub fn looks_like_label(word: &[u8]) -> bool
     ensures { result ≡ begins_name word.now }
 {
     !word.is_empty() && (word[0].is_ascii_alphabetic() || word[0] == b'_')
+}
+
+/// The number of the call that a word names: 1 to 8.
+#[tactic(auto, unfolding(crate::specs::Numbers::call_named))]
+pub fn call_named(word: &[u8]) -> Option<u8>
+    ensures { result ≡ call_named word.now }
+{
+    if word == b"EXIT".as_slice() {
+        Some(1)
+    } else if word == b"OUT".as_slice() {
+        Some(2)
+    } else if word == b"MAKE".as_slice() {
+        Some(3)
+    } else if word == b"COPY".as_slice() {
+        Some(4)
+    } else if word == b"DROP".as_slice() {
+        Some(5)
+    } else if word == b"SEND".as_slice() {
+        Some(6)
+    } else if word == b"RECEIVE".as_slice() {
+        Some(7)
+    } else if word == b"MOVE".as_slice() {
+        Some(8)
+    } else {
+        None
+    }
 }

@@ -5,12 +5,12 @@ ghost use Rattle.dm_asm.specs.declared.forms.Shape.TheVariants as shape;
 ghost use Rattle.dm_asm.specs.declared.labels.Place.{Place};
 ghost use Rattle.dm_asm.specs.Labels.{place_in};
 ghost use Rattle.dm_asm.specs.Numbers.{literal_value};
-ghost use Rattle.dm_asm.specs.Operands.{distance, distance_of, fields, number_operand, operand_value, register, target, value, wanted_number};
+ghost use Rattle.dm_asm.specs.Operands.{call_operand, call_value, distance, distance_of, fields, number_operand, multiple, operand_value, register, target, value, wanted_multiple, wanted_number};
 ghost use Rattle.dm_asm.specs.Seen.{seen};
 
 use crate::forms::Shape;
 use crate::labels::Labels;
-use crate::numbers::{looks_like_label, number, register};
+use crate::numbers::{call_named, looks_like_label, number, register};
 use crate::refusals::Why;
 use dm_reading::{Gap, next_word};
 
@@ -22,6 +22,19 @@ pub fn number_within(word: &[u8], most: u32) -> Result<u32, Why>
     match number(word) {
         None => Err(Why::BadNumber),
         Some(n) if n <= u64::from(most) => Ok(n as u32),
+        Some(_) => Err(Why::OutOfRange),
+    }
+}
+
+/// A number that a word must be of which an address is to be a multiple: 1 to 65,536.
+fn multiple_within(word: &[u8]) -> Result<u32, Why>
+    ensures value { result ≡ wanted_multiple (literal_value word.now) }
+    ensures some { IfOk result (λ n. 0 < n) }
+    ensures small { IfOk result (λ n. n ≤ 65536) }
+{
+    match number(word) {
+        None => Err(Why::BadNumber),
+        Some(n) if n >= 1 && n <= 65_536 => Ok(n as u32),
         Some(_) => Err(Why::OutOfRange),
     }
 }
@@ -39,6 +52,20 @@ fn value_within(labels: &Labels, word: &[u8], most: u32) -> Result<u32, Why>
         None => Err(Why::UnknownLabel),
         Some(place) if place.address <= u128::from(most) => Ok(place.address as u32),
         Some(_) => Err(Why::OutOfRange),
+    }
+}
+
+/// The number of a call that a word must be, or name.
+#[tactic(auto, unfolding(crate::specs::Operands::call_value))]
+fn call_within(word: &[u8]) -> Result<u8, Why>
+    ensures { result ≡ call_value word.now }
+{
+    match call_named(word) {
+        Some(n) => Ok(n),
+        None => match number_within(word, 255) {
+            Err(why) => Err(why),
+            Ok(n) => Ok(n as u8),
+        },
     }
 }
 
@@ -102,6 +129,36 @@ pub fn next_number(rest: &[u8], most: u32) -> Result<(u32, &[u8]), Why>
     match next_word(rest, Gap::Separators) {
         None => Err(Why::OperandCount),
         Some((word, behind)) => match number_within(word, most) {
+            Err(why) => Err(why),
+            Ok(n) => Ok((n, behind)),
+        },
+    }
+}
+
+/// The number that the next word must be of which an address is to be a multiple, and what stands behind it.
+#[tactic(auto, unfolding(crate::specs::Operands::multiple))]
+pub fn next_multiple(rest: &[u8]) -> Result<(u32, &[u8]), Why>
+    ensures value { seen result ≡ multiple (source_words rest.now) }
+    ensures some { IfOk result (λ x. 0 < x.0) }
+    ensures small { IfOk result (λ x. x.0 ≤ 65536) }
+{
+    match next_word(rest, Gap::Separators) {
+        None => Err(Why::OperandCount),
+        Some((word, behind)) => match multiple_within(word) {
+            Err(why) => Err(why),
+            Ok(n) => Ok((n, behind)),
+        },
+    }
+}
+
+/// The call that the next word must be, and what stands behind it.
+#[tactic(auto, unfolding(crate::specs::Operands::call_operand))]
+fn next_call(rest: &[u8]) -> Result<(u8, &[u8]), Why>
+    ensures { seen result ≡ call_operand (source_words rest.now) }
+{
+    match next_word(rest, Gap::Separators) {
+        None => Err(Why::OperandCount),
+        Some((word, behind)) => match call_within(word) {
             Err(why) => Err(why),
             Ok(n) => Ok((n, behind)),
         },
@@ -226,11 +283,11 @@ fn branch(labels: &Labels, at: usize, rest: &[u8]) -> Result<[u8; 3], Why>
     Ok([a, b, d])
 }
 
-/// The number of a call.
+/// A call.
 #[tactic(auto, unfolding(crate::specs::Operands::fields))]
 fn call(rest: &[u8]) -> Result<[u8; 3], Why>
     ensures { (places : List ℕ → Option Place) (n : ℕ) → result ≡ fields places n shape.Call (source_words rest.now) }
 {
-    let (n, _) = next_number(rest, 255)?;
-    Ok([0, 0, n as u8])
+    let (n, _) = next_call(rest)?;
+    Ok([0, 0, n])
 }

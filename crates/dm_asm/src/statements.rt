@@ -1,15 +1,17 @@
 //! The bytes of statements.
-ghost use Rattle.std.specs.Prelude.{◌≡◌, ◌==◌, false, length, not, option_map, unwrap_or};
+ghost use Rattle.std.specs.Prelude.{◌≡◌, ◌==◌, None, false, length, not, option_map, unwrap_or};
 ghost use Rattle.dm_reading.specs.Words.{source_words};
 ghost use Rattle.dm_asm.specs.Labels.{place_in};
 ghost use Rattle.dm_asm.specs.Refusals.{Gives, bytes_behind};
 ghost use Rattle.dm_asm.specs.Statements.{form_bytes, instruction_bytes, listed_bytes, statement_bytes, takes_operands};
-ghost use Rattle.dm_asm.specs.declared.forms.Form.TheVariants.{Byte, Word, Zero};
+ghost use Rattle.dm_asm.specs.declared.forms.Form.TheVariants.{Align, Ascii, Byte, Word, Zero};
+ghost use Rattle.dm_asm.specs.Texts.{text_in, text_operand};
 
 use crate::forms::{Form, Shape};
-use crate::labels::{Labels, Place};
-use crate::operands::{last_bytes, next_number, next_value, number_within};
+use crate::labels::{Labels, Place, padding};
+use crate::operands::{last_bytes, next_multiple, next_number, next_value, number_within};
 use crate::refusals::{Stop, Why};
+use crate::texts::text_operand;
 use byteorder::{BigEndian, ByteOrder};
 use dm_memory::{append_zeros, extend_from_slice, push};
 use dm_processor::Opcode;
@@ -35,7 +37,7 @@ fn add_instruction(
 /// Adds a word.
 fn add_word(labels: &Labels, image: &mut Vec<u8>, operands: &[u8]) -> Result<(), Stop>
     ensures { Gives (λ _. image.new.items) result
-        (bytes_behind image.old.items (form_bytes (place_in labels.now) (length image.old.items) Word (source_words operands.now))) }
+        (bytes_behind image.old.items (form_bytes (place_in labels.now) (length image.old.items) None Word (source_words operands.now))) }
 {
     let (word, _) = next_value(labels, operands, u32::MAX)?;
     let mut bytes = [0; 4];
@@ -62,11 +64,36 @@ fn add_listed(image: &mut Vec<u8>, operands: &[u8]) -> Result<(), Stop>
 /// Adds zeros.
 fn add_zeros(labels: &Labels, image: &mut Vec<u8>, operands: &[u8]) -> Result<(), Stop>
     ensures { Gives (λ _. image.new.items) result
-        (bytes_behind image.old.items (form_bytes (place_in labels.now) (length image.old.items) Zero (source_words operands.now))) }
+        (bytes_behind image.old.items (form_bytes (place_in labels.now) (length image.old.items) None Zero (source_words operands.now))) }
 {
     let (n, _) = next_number(operands, 65_536)?;
     append_zeros(image, n)?;
     Ok(())
+}
+
+/// Adds zeros up to a multiple of a number.
+fn add_padding(labels: &Labels, image: &mut Vec<u8>, operands: &[u8]) -> Result<(), Stop>
+    ensures { Gives (λ _. image.new.items) result
+        (bytes_behind image.old.items (form_bytes (place_in labels.now) (length image.old.items) None Align (source_words operands.now))) }
+{
+    let (n, _) = next_multiple(operands)?;
+    let zeros = padding(image.len() as u128, n);
+    append_zeros(image, zeros)?;
+    Ok(())
+}
+
+/// Adds the text of a line without its comment.
+fn add_text(labels: &Labels, image: &mut Vec<u8>, line: &[u8], operands: &[u8]) -> Result<(), Stop>
+    ensures { Gives (λ _. image.new.items) result
+        (bytes_behind image.old.items (form_bytes (place_in labels.now) (length image.old.items) (text_in line.now) Ascii (source_words operands.now))) }
+{
+    match text_operand(line, operands) {
+        None => Err(Stop::Fault(Why::BadNumber)),
+        Some(text) => {
+            extend_from_slice(image, text)?;
+            Ok(())
+        }
+    }
 }
 
 /// Whether an instruction or directive can have so many operands.
@@ -75,34 +102,43 @@ fn can_have(form: Form, operands: usize) -> bool
 {
     match form {
         Form::Instruction(op) => operands == Shape::of(op).operands(),
-        Form::Word | Form::Zero => operands == 1,
-        Form::Byte => operands > 0,
+        Form::Word | Form::Zero | Form::Align => operands == 1,
+        Form::Byte | Form::Ascii => operands > 0,
     }
 }
 
-/// Adds what an instruction or directive with its operands is.
-fn add_form(labels: &Labels, image: &mut Vec<u8>, form: Form, operands: &[u8]) -> Result<(), Stop>
+/// Adds what an instruction or directive with its operands is, in a line without its comment.
+fn add_form(
+    labels: &Labels,
+    image: &mut Vec<u8>,
+    form: Form,
+    line: &[u8],
+    operands: &[u8],
+) -> Result<(), Stop>
     ensures { Gives (λ _. image.new.items) result
-        (bytes_behind image.old.items (form_bytes (place_in labels.now) (length image.old.items) form (source_words operands.now))) }
+        (bytes_behind image.old.items (form_bytes (place_in labels.now) (length image.old.items) (text_in line.now) form (source_words operands.now))) }
 {
     match form {
         Form::Instruction(op) => add_instruction(labels, image, op, operands),
         Form::Word => add_word(labels, image, operands),
         Form::Byte => add_listed(image, operands),
         Form::Zero => add_zeros(labels, image, operands),
+        Form::Align => add_padding(labels, image, operands),
+        Form::Ascii => add_text(labels, image, line, operands),
     }
 }
 
-/// Adds what stands behind a label, if any. The label may be defined before.
+/// Adds what stands behind a label, if any, in a line without its comment. The label may be defined before.
 #[tactic(auto, unfolding(crate::specs::Statements::statement_bytes))]
 pub fn add_statement(
     labels: &Labels,
     image: &mut Vec<u8>,
     twice: bool,
+    line: &[u8],
     statement: &[u8],
 ) -> Result<(), Stop>
     ensures { Gives (λ _. image.new.items) result
-        (bytes_behind image.old.items (statement_bytes (place_in labels.now) (length image.old.items) twice (source_words statement.now))) }
+        (bytes_behind image.old.items (statement_bytes (place_in labels.now) (length image.old.items) twice (text_in line.now) (source_words statement.now))) }
 {
     match next_word(statement, Gap::Separators) {
         None if twice => Err(Stop::Fault(Why::LabelTwice)),
@@ -111,7 +147,7 @@ pub fn add_statement(
             None => Err(Stop::Fault(Why::UnknownWord)),
             Some(_) if twice => Err(Stop::Fault(Why::LabelTwice)),
             Some(form) if can_have(form, count_words(operands, Gap::Separators)) => {
-                add_form(labels, image, form, operands)
+                add_form(labels, image, form, line, operands)
             }
             Some(_) => Err(Stop::Fault(Why::OperandCount)),
         },

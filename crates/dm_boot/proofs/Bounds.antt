@@ -1,6 +1,8 @@
 -- What a document whose rules are kept says of its numbers.
 use Rattle.dm_boot.proofs.Imports.{◌≡◌, ℕ, ◌+◌, ◌<◌, ◌&&◌, zero, suc, Bool, true, false, if◌then◌else◌, nat_le, ℤ, pos, negsuc, List, length, slice_get, Option, Some, None, refl, sym, arith, and_parts, nat_tests, is_some, list_all, Data}
-use Rattle.dm_boot.proofs.Imports.{Items, no_items, item, get_item, get, as_integer, in_range, integer_in, number_or, number_at, or_zero, count, first_failing, map_items, element_place_from, element_place, is_named}
+use Rattle.std.specs.Prelude.{option_and_then}
+use Rattle.toml.specs.Data.{as_str, string, integer, float, boolean, datetime, array, table}
+use Rattle.dm_boot.proofs.Imports.{place_at, Items, no_items, item, get_item, get, as_integer, in_range, integer_in, number_or, number_at, or_zero, count, first_failing, map_items, element_place_from, element_place, is_named}
 
 -- an `if` that says nothing
 pub if-none : (b : Bool) (rest : Option ℕ) (i : ℕ) → (if b then rest else Some i) ≡ None → (b ≡ true) × (rest ≡ None)
@@ -60,6 +62,21 @@ zero-or most (Some d) h = zero-integer most (as_integer d) h
 pub number-zero : (most : ℕ) (key : List ℕ) (d : Data) → is_some (number_at 0 0 0 key d) ≡ true → or_zero (number_at 0 0 most key d) ≡ 0
 unfolding number_at
 number-zero most key d h = zero-or most (get key d) h
+
+-- a number at a key is no text
+no-text : (most : ℕ) (o : Option Data) → is_some (number_or 0 0 most o) ≡ true → is_some (option_and_then as_str o) ≡ false
+no-text most None h = refl
+no-text most (Some (string s)) h = absurd (cc)
+no-text most (Some (integer z)) h = refl
+no-text most (Some (float x)) h = refl
+no-text most (Some (boolean b)) h = refl
+no-text most (Some (datetime t)) h = refl
+no-text most (Some (array vs)) h = refl
+no-text most (Some (table ms)) h = refl
+
+pub place-zero : (program : List ℕ) (from : ℕ) (key : List ℕ) (d : Data) → is_some (number_at 0 0 0 key d) ≡ true → or_zero (place_at program from key d) ≡ 0
+unfolding place_at number_at
+place-zero program from key d h = rw (no-text 0 (get key d) h) (zero-or 65536 (get key d) h)
 
 -- elements that pass two tests
 pub both-pass : {A : Type 0} (test more : ℕ → Data → Bool) (f : Data → A) (Q : A → Bool) → ((i : ℕ) (t : Data) → test i t ≡ true → more i t ≡ true → Q (f t) ≡ true) → (i : ℕ) (ts : Items) → first_failing test i ts ≡ None → first_failing more i ts ≡ None → list_all Q (map_items f ts) ≡ true

@@ -29,9 +29,9 @@ pub use Rattle.dm_boot.proofs.Said.{broken_or, integer_in, is_below, linked, lin
 pub use Rattle.dm_boot.specs.Before.{before_images}
 pub use Rattle.dm_boot.specs.Boot.{Answers, document_of, unless}
 unfoldable pub use Rattle.dm_boot.specs.Boot.{boot_of, boot_of_table, unless_at}
-pub use Rattle.dm_boot.specs.Build.{base_in, blocks_in, channel_in, code_in, format_number, format_of, home_of, image_blocks, image_place, image_tables, images_of, is_control, len_in, link_tables, machine_number}
+pub use Rattle.dm_boot.specs.Build.{base_in, base_of, len_of, blocks_in, channel_in, code_in, format_number, format_of, home_of, image_blocks, image_place, image_tables, images_of, is_control, len_in, link_tables, machine_number}
 pub use Rattle.dm_boot.specs.Build.{machine_tables, machines_of, numbers_of, process_tables, processes_of, quantum_of, slots_in}
-unfoldable pub use Rattle.dm_boot.specs.Build.{boot_machine, image_of, link_of, link_of_control, link_to, linked_all, pid_named, start_of, starts_from, starts_of, system_with}
+unfoldable pub use Rattle.dm_boot.specs.Build.{label_behind, place_at, program_of, boot_machine, image_of, link_of, link_of_control, link_to, linked_all, pid_named, start_of, starts_from, starts_of, system_with}
 pub use Rattle.dm_boot.specs.Named.{place_in}
 pub use Rattle.dm_boot.specs.Rules.{assembles, fits_machine, image_rules, link_rules, process_rules, rules}
 unfoldable pub use Rattle.dm_boot.specs.Rules.{broken_at, first_broken, first_long, first_unassembled, fits_after, has_area, has_good_image_count, has_good_machine_count, has_good_room, has_good_settings, has_link_count, has_machine}

@@ -1,5 +1,5 @@
 -- What the tables of a boot file build, where no rule is broken.
-use Rattle.std.specs.Prelude.{ℕ, ◌+◌, ◌==◌, Bool, true, false, List, [], ◌∷◌, ◌++◌, codes, slice_get, option_map, unwrap_or, if◌then◌else◌}
+use Rattle.std.specs.Prelude.{ℕ, ◌+◌, ◌-◌, ◌==◌, ◌&&◌, nat_le, None, Some, option_and_then, Bool, true, false, List, [], ◌∷◌, ◌++◌, codes, slice_get, option_map, unwrap_or, if◌then◌else◌}
 use Rattle.std.specs.declared.option.Option.{Option}
 use Rattle.toml.specs.Data.{Data, Items, no_items, item, as_str}
 use Rattle.dm_link.specs.declared.Pid.{Pid}
@@ -16,7 +16,8 @@ use Rattle.dm_onekernel.specs.declared.boot.BootProcess.{BootProcess}
 use Rattle.dm_onekernel.specs.declared.boot.Boot.{Boot}
 use Rattle.dm_onekernel.specs.Boot.{first_number, starting_at, switchboard, manager}
 use Rattle.dm_onekernel.specs.Calls.{kind_of_flag}
-use Rattle.dm_boot.specs.Tables.{has_value, text_at, truth_at, number_at, or_zero, items_at, map_items, element_place}
+use Rattle.dm_asm.specs.Assembled.{places_of}
+use Rattle.dm_boot.specs.Tables.{has_value, named, text_at, truth_at, number_at, or_zero, items_at, map_items, element_place}
 use Rattle.dm_boot.specs.Text.{bytes_of_image, is_switchboard, is_manager}
 
 -- the tables of the machines, the images and the processes
@@ -115,16 +116,40 @@ base_in most t = number_at 0 0 most (codes "base") t
 abbrev pub len_in : ℕ → Data → Option ℕ
 len_in most t = number_at 0 0 most (codes "len") t
 
+-- the text of the image of the process with this name; empty where there is none
+unfoldable pub program_of : Data → List ℕ → List ℕ
+program_of d name =
+    unwrap_or (option_map (λ t. text_at (codes "text") t) (option_and_then (λ t. named (text_at (codes "image") t) (image_tables d)) (named name (process_tables d)))) []
+
+-- how far an address is behind another, if it isn't before it
+abbrev pub behind : ℕ → ℕ → Option ℕ
+behind from at = if nat_le from at && nat_le at 65536 then Some (at - from) else None
+
+-- how far a label of a program stands behind an address, if there is one and it doesn't stand before
+unfoldable pub label_behind : List ℕ → ℕ → List ℕ → Option ℕ
+label_behind program from label = option_and_then (λ p. behind from p.address) (places_of program label)
+
+-- the number at a key, or how far the label there stands behind an address
+unfoldable pub place_at : List ℕ → ℕ → List ℕ → Data → Option ℕ
+place_at program from key t = if has_value as_str key t then label_behind program from (text_at key t) else number_at 0 0 65536 key t
+
+-- where the area of a link begins, and how long it is; a label as length is where it ends
+abbrev pub base_of : List ℕ → Data → Option ℕ
+base_of program t = place_at program 0 (codes "base") t
+
+abbrev pub len_of : List ℕ → Data → Option ℕ
+len_of program t = place_at program (or_zero (base_of program t)) (codes "len") t
+
 -- a link to a process where it starts
 abbrev pub link_at_home : Pid → Kind → ℕ → ℕ → Area → Link
 link_at_home p kind code channel area =
     record { addr = record { pid = p; at = p.home; moves = 0 }; kind = kind; to_kernel = false; code = code; channel = channel; area = area }
 
--- the link to a process that a table says
-unfoldable pub link_to : Pid → Data → Link
-link_to p t = link_at_home p (kind_of_flag (truth_at (codes "reply") t)) (or_zero (code_in 4294967295 t)) (or_zero (channel_in t)) (record {
-  base = or_zero (base_in 65536 t);
-  len = or_zero (len_in 65536 t);
+-- the link to a process with this program that a table says
+unfoldable pub link_to : Pid → List ℕ → Data → Link
+link_to p program t = link_at_home p (kind_of_flag (truth_at (codes "reply") t)) (or_zero (code_in 4294967295 t)) (or_zero (channel_in t)) (record {
+  base = or_zero (base_of program t);
+  len = or_zero (len_of program t);
   read = truth_at (codes "read") t;
   write = truth_at (codes "write") t;
 })
@@ -140,7 +165,7 @@ is_control t = has_value as_str (codes "control") t
 unfoldable pub link_of : Data → List BootProcess → Data → Link
 link_of d starts t =
     if is_control t then link_of_control (or_zero (element_place (text_at (codes "control") t) (process_tables d)) + 1)
-    else link_to (pid_named d starts (text_at (codes "to") t)) t
+    else link_to (pid_named d starts (text_at (codes "to") t)) (program_of d (text_at (codes "to") t)) t
 
 -- the tables of a process's links
 abbrev pub link_tables : Data → Items

@@ -13,7 +13,7 @@ use Rattle.dm_boot.specs.declared.rules.TableRule.{TableRule}
 use Rattle.dm_boot.specs.declared.rules.TableRule.TheVariants as of_tables
 use Rattle.dm_boot.specs.Tables.{has_only, has_value, may_have, text_at, truth_at, or_zero, count, all_items, first_failing, element_place, named, items_at}
 use Rattle.dm_boot.specs.Text.{is_boot_name, is_server_name, bytes_of_image}
-use Rattle.dm_boot.specs.Build.{machine_tables, image_tables, process_tables, link_tables, numbers_of, quantum_of, format_number, format_of, slots_in, blocks_in, machines_of, image_blocks, image_of, images_of, machine_number, image_place, start_of, starts_of, code_in, channel_in, base_in, len_in, is_control}
+use Rattle.dm_boot.specs.Build.{machine_tables, image_tables, process_tables, link_tables, numbers_of, quantum_of, format_number, format_of, slots_in, blocks_in, machines_of, image_blocks, image_of, images_of, machine_number, image_place, start_of, starts_of, code_in, channel_in, base_in, len_in, base_of, len_of, program_of, is_control}
 
 -- an array of tables, or nothing
 unfoldable pub may_have_tables : List ℕ → Data → Bool
@@ -73,12 +73,16 @@ unfoldable pub first_long : ℕ → List BootImage → Option ℕ
 first_long i [] = None
 first_long i (image ∷ images) = if image_fits image then first_long (i + 1) images else Some i
 
+-- the key is missing, or has an integer or a label
+abbrev pub may_have_place : List ℕ → Data → Bool
+may_have_place key t = may_have as_integer key t || has_value as_str key t
+
 -- the keys of a link, and their types
 abbrev pub is_link_to : Data → Bool
 is_link_to t =
     has_only (codes "to" ∷ codes "code" ∷ codes "channel" ∷ codes "base" ∷ codes "len" ∷ codes "reply" ∷ codes "read" ∷ codes "write" ∷ []) t
     && (has_value as_str (codes "to") t
-    && ((may_have as_integer (codes "code") t && (may_have as_integer (codes "channel") t && (may_have as_integer (codes "base") t && may_have as_integer (codes "len") t)))
+    && ((may_have as_integer (codes "code") t && (may_have as_integer (codes "channel") t && (may_have_place (codes "base") t && may_have_place (codes "len") t)))
     && (may_have as_bool (codes "reply") t && (may_have as_bool (codes "read") t && may_have as_bool (codes "write") t))))
 
 abbrev pub is_control_link : Data → Bool
@@ -130,10 +134,10 @@ unfoldable pub memory_size_of : Data → List ℕ → ℕ
 memory_size_of d name =
     256 * or_zero (option_and_then image_blocks (option_and_then (λ t. named (text_at (codes "image") t) (image_tables d)) (named name (process_tables d))))
 
--- a link's area within so many bytes
-unfoldable pub has_area : ℕ → Data → Bool
-has_area size l =
-    is_some (base_in 65536 l) && (is_some (len_in 65536 l) && nat_le (or_zero (base_in 65536 l) + or_zero (len_in 65536 l)) size)
+-- a link's area within so many bytes of a program
+unfoldable pub has_area : ℕ → List ℕ → Data → Bool
+has_area size program l =
+    is_some (base_of program l) && (is_some (len_of program l) && nat_le (or_zero (base_of program l) + or_zero (len_of program l)) size)
 
 -- a link to a server has no code and no area
 unfoldable pub is_plain : Data → Bool
@@ -145,7 +149,7 @@ unfoldable pub is_limited : Data → Data → Bool
 is_limited d l =
     is_some (channel_in l)
     && (if is_control l || is_server_name (text_at (codes "to") l) then is_plain l
-    else is_some (code_in 4294967295 l) && has_area (memory_size_of d (text_at (codes "to") l)) l)
+    else is_some (code_in 4294967295 l) && has_area (memory_size_of d (text_at (codes "to") l)) (program_of d (text_at (codes "to") l)) l)
 
 -- the top table alone
 abbrev pub only : Data → Items

@@ -11,12 +11,11 @@ ghost use Rattle.dm_boot.specs.Sound.{general_link, has_sound_links, is_sound};
 use crate::document::Document;
 use crate::names::{is_manager, is_switchboard};
 use crate::tables::{items_at, lone_text, text_at, truth_at};
-use crate::targets::{base_in, channel_in, code_in, is_control, is_limited, len_in};
+use crate::targets::{base_of, channel_in, code_in, is_control, is_limited, len_of, program_of};
 use dm_link::{Addr, Area, Kind, Link, MANAGER, Pid, SWITCHBOARD};
 use dm_lists::Items;
 use dm_memory::{NoMemory, push, with_room};
 use dm_onekernel::boot::BootProcess;
-use dm_processor::MOST_MEMORY;
 use std::alloc::Global;
 use toml::Value;
 
@@ -117,9 +116,10 @@ fn full_link(document: &Document<'_>, starts: &[BootProcess], link: &Value) -> R
     ensures link { result.link ≡ link_of (view document.now.top.now) starts.now (view link.now) }
     ensures sound { result.sound ≡ is_sound (view document.now.top.now) (view link.now) }
 {
-    let led = led_to(document, starts, text_at(link, "to"));
+    let name = text_at(link, "to");
+    let led = led_to(document, starts, name);
     ReadLink {
-        link: link_to(led.pid, link),
+        link: link_to(led.pid, program_of(document, name), link),
         sound: led.found && is_limited(document, link),
     }
 }
@@ -160,10 +160,10 @@ fn pid_of_start(starts: &[BootProcess], place: usize) -> Pid
     starts[place].pid
 }
 
-/// A link to a process where it starts.
+/// A link to a process with this program where it starts.
 #[tactic(auto, unfolding(crate::specs::Build::link_to))]
-fn link_to(pid: Pid, link: &Value) -> Link
-    ensures { result ≡ link_to pid (view link.now) }
+fn link_to(pid: Pid, program: &str, link: &Value) -> Link
+    ensures { result ≡ link_to pid program.now (view link.now) }
 {
     Link {
         addr: Addr {
@@ -176,8 +176,8 @@ fn link_to(pid: Pid, link: &Value) -> Link
         code: code_in(link, u32::MAX).unwrap_or(0),
         channel: channel_in(link).unwrap_or(0) as u8,
         area: Area {
-            base: base_in(link, MOST_MEMORY).unwrap_or(0),
-            len: len_in(link, MOST_MEMORY).unwrap_or(0),
+            base: base_of(link, program).unwrap_or(0),
+            len: len_of(link, program).unwrap_or(0),
             read: truth_at(link, "read"),
             write: truth_at(link, "write"),
         },

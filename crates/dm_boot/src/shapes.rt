@@ -3,7 +3,7 @@ ghost use Rattle.std.specs.Prelude.{◌≡◌, is_some};
 ghost use Rattle.toml.specs.Data.{as_table};
 ghost use Rattle.toml.specs.View.{items_view, view};
 ghost use Rattle.dm_boot.specs.Tables.{all_items};
-ghost use Rattle.dm_boot.specs.Rules.{is_control_link, is_image, is_link, is_link_to, is_machine, is_process, is_top, may_have_tables};
+ghost use Rattle.dm_boot.specs.Rules.{is_control_link, is_image, is_link, is_link_to, is_machine, is_process, is_top, may_have_place, may_have_tables};
 
 use crate::tables::{
     has_integer, has_only, has_text, items_at, lone_text, may_have_array, may_have_integer,
@@ -110,6 +110,13 @@ fn is_control_link(value: &Value) -> bool
     has_only(value, &["control"]) && has_text(value, "control")
 }
 
+/// Whether the key is missing or has an integer or a label.
+fn may_have_place(value: &Value, key: &str) -> bool
+    ensures { result ≡ may_have_place key.now (view value.now) }
+{
+    may_have_integer(value, key) || has_text(value, key)
+}
+
 fn is_link_to(value: &Value) -> bool
     ensures { result ≡ is_link_to (view value.now) }
 {
@@ -120,8 +127,8 @@ fn is_link_to(value: &Value) -> bool
         && has_text(value, "to")
         && (may_have_integer(value, "code")
             && may_have_integer(value, "channel")
-            && may_have_integer(value, "base")
-            && may_have_integer(value, "len"))
+            && may_have_place(value, "base")
+            && may_have_place(value, "len"))
         && (may_have_truth(value, "reply")
             && may_have_truth(value, "read")
             && may_have_truth(value, "write"))

@@ -1,14 +1,15 @@
 //! Where links lead, and the limits of their numbers.
-ghost use Rattle.std.specs.Prelude.{◌≡◌, ◌≤◌, IfSome, codes, option_and_then, option_map};
+ghost use Rattle.std.specs.Prelude.{◌≡◌, ◌≤◌, IfSome, [], codes, option_and_then, option_map, unwrap_or};
 ghost use Rattle.toml.specs.View.{items_view, view};
 ghost use Rattle.dm_boot.specs.Tables.{all_items, named, or_zero, text_at};
-ghost use Rattle.dm_boot.specs.Build.{base_in, channel_in, code_in, image_blocks, image_tables, is_control, len_in};
+ghost use Rattle.dm_boot.specs.Build.{base_in, base_of, channel_in, code_in, image_blocks, image_tables, is_control, label_behind, len_in, len_of, place_at, program_of};
 ghost use Rattle.dm_boot.specs.Rules.{has_area, has_target, is_limited, is_plain, memory_size_of};
 
 use crate::document::Document;
 use crate::limits::image_blocks;
 use crate::names::is_server;
 use crate::tables::{has_text, number_at, text_at, truth_at};
+use dm_asm::label_address;
 use dm_link::LAST_CHANNEL;
 use dm_processor::{BLOCK, MOST_MEMORY};
 use toml::Value;
@@ -73,13 +74,78 @@ pub fn len_in(link: &Value, most: u32) -> Option<u32>
     number_at(link, "len", 0, 0, most)
 }
 
-/// Whether a link's area lies within the memory of the process with a name. An area that ends at 0 lies within any, and nothing is
-/// looked up for it.
+/// How far a label of a program stands behind an address, if there is one and it doesn't stand before.
+#[tactic(auto, unfolding(crate::specs::Build::label_behind))]
+fn label_behind(program: &str, from: u32, label: &str) -> Option<u32>
+    ensures value { result ≡ label_behind program.now from label.now }
+    ensures few { IfSome result (λ n. n ≤ MOST_MEMORY) }
+{
+    match label_address(program, label) {
+        Some(at) if at >= u128::from(from) && at <= u128::from(MOST_MEMORY) => {
+            Some(at as u32 - from)
+        }
+        _ => None,
+    }
+}
+
+/// The number at a key, or how far the label there stands behind an address.
+#[tactic(auto, unfolding(crate::specs::Build::place_at))]
+fn place_at(link: &Value, program: &str, from: u32, key: &str) -> Option<u32>
+    ensures place { result ≡ place_at program.now from key.now (view link.now) }
+    ensures few { IfSome result (λ n. n ≤ MOST_MEMORY) }
+{
+    if has_text(link, key) {
+        label_behind(program, from, text_at(link, key))
+    } else {
+        number_at(link, key, 0, 0, MOST_MEMORY)
+    }
+}
+
+/// Where the area of a link begins, in the memory of a process with this program.
+pub fn base_of(link: &Value, program: &str) -> Option<u32>
+    ensures base { result ≡ base_of program.now (view link.now) }
+    ensures few { IfSome result (λ n. n ≤ MOST_MEMORY) }
+{
+    place_at(link, program, 0, "base")
+}
+
+/// How long it is; a label is where it ends.
+pub fn len_of(link: &Value, program: &str) -> Option<u32>
+    ensures len { result ≡ len_of program.now (view link.now) }
+    ensures few { IfSome result (λ n. n ≤ MOST_MEMORY) }
+{
+    place_at(link, program, base_of(link, program).unwrap_or(0), "len")
+}
+
+/// The text of an image that was found.
+fn text_of_named(image: Option<&Value>) -> &str
+    ensures { result.now ≡ unwrap_or (option_map (λ t. text_at (codes "text") t) (option_map (λ v. view v.now) image.entry)) [] }
+{
+    match image {
+        Some(image) => text_at(image, "text"),
+        None => "",
+    }
+}
+
+/// The text of the image of the process with a name; empty where there is none.
+#[tactic(auto, unfolding(crate::specs::Build::program_of))]
+pub fn program_of<'d>(document: &Document<'d>, name: &str) -> &'d str
+    ensures { result.now ≡ program_of (view document.now.top.now) name.now }
+{
+    match document.process(name) {
+        Some(process) => text_of_named(document.image(text_at(process, "image"))),
+        None => "",
+    }
+}
+
+/// Whether a link's area lies within the memory of the process with a name. For an area that ends at 0, which lies within any, the
+/// memory isn't looked up.
 #[tactic(auto, unfolding(crate::specs::Rules::has_area))]
 fn has_area(document: &Document<'_>, name: &str, link: &Value) -> bool
-    ensures { result ≡ has_area (memory_size_of (view document.now.top.now) name.now) (view link.now) }
+    ensures { result ≡ has_area (memory_size_of (view document.now.top.now) name.now) (program_of (view document.now.top.now) name.now) (view link.now) }
 {
-    match (base_in(link, MOST_MEMORY), len_in(link, MOST_MEMORY)) {
+    let program = program_of(document, name);
+    match (base_of(link, program), len_of(link, program)) {
         (Some(base), Some(len)) => base + len == 0 || base + len <= memory_of(document, name),
         _ => false,
     }
