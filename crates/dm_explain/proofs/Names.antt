@@ -18,7 +18,7 @@ pub use Rattle.dm_explain.specs.TextFaults.{or_why, place_of}
 unfoldable pub use Rattle.dm_explain.specs.TextFaults.{operand_why, operands_why, place_in}
 pub use Rattle.dm_explain.specs.TextPlace.{next_line, opens}
 unfoldable pub use Rattle.dm_explain.specs.TextPlace.{line_before}
-unfoldable pub use Rattle.dm_explain.specs.Told.{later_lines}
+unfoldable pub use Rattle.dm_explain.specs.Told.{later_images, later_lines}
 pub use Rattle.dm_explain.specs.BadSources.{BadWord}
 pub use Rattle.dm_explain.specs.Faults.{is_met, is_within, keys_text, other_keys_told}
 unfoldable pub use Rattle.dm_explain.specs.Faults.{first_unknown}

@@ -12,7 +12,7 @@ use Rattle.std.specs.Str.{bytes_eq}
 use Rattle.dm_asm.proofs.Defined.{first_of-None}
 use Rattle.dm_asm.specs.Places.{first_of, line_size}
 use Rattle.dm_explain.specs.TextFaults.{line_why}
-use Rattle.dm_explain.specs.Told.{fault_told}
+use Rattle.dm_explain.specs.Told.{line_fault_told}
 
 is_some-none : (old : Option Spot) → false ≡ is_some old → old ≡ None
 is_some-none None e = refl
@@ -57,11 +57,11 @@ unfolding later_lines
 later-end t before first places number at done ls none = ap (λ xs. done ++ later_lines t before first places number at xs) none ∙ append-nil done
 
 -- a line was told, and others are left
-pub later-more : (t : Data) (before : Option ℕ) (first : ℕ) (places : List ℕ → Option Place) (number at : ℕ) (done mid : List ℕ) (ls : List (List ℕ)) (l : List ℕ) (rest : List (List ℕ)) → ls ≡ l ∷ rest → mid ≡ done ++ fault_told t before first number l (line_why places number at l) → mid ++ later_lines t before first places (number + 1) (at + line_size l) rest ≡ done ++ later_lines t before first places number at ls
+pub later-more : (t : Data) (before : Option ℕ) (first : ℕ) (places : List ℕ → Option Place) (number at : ℕ) (done mid : List ℕ) (ls : List (List ℕ)) (l : List ℕ) (rest : List (List ℕ)) → ls ≡ l ∷ rest → mid ≡ done ++ line_fault_told t before first places number l (line_why places number at l) → mid ++ later_lines t before first places (number + 1) (at + line_size at l) rest ≡ done ++ later_lines t before first places number at ls
 unfolding later_lines
 later-more t before first places number at done mid ls l rest is told =
-    ap (λ m. m ++ later_lines t before first places (number + 1) (at + line_size l) rest) told
-    ∙ append_assoc done (fault_told t before first number l (line_why places number at l)) (later_lines t before first places (number + 1) (at + line_size l) rest)
+    ap (λ m. m ++ later_lines t before first places (number + 1) (at + line_size at l) rest) told
+    ∙ append_assoc done (line_fault_told t before first places number l (line_why places number at l)) (later_lines t before first places (number + 1) (at + line_size at l) rest)
     ∙ ap (λ xs. done ++ later_lines t before first places number at xs) (sym is)
 
 pub ruleset later_lemmas = (later-end, later-more)

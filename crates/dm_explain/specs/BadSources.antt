@@ -5,7 +5,7 @@ use Rattle.std.specs.List.{concat}
 use Rattle.std.specs.Fmt.{decimal}
 use Rattle.dm_reading.specs.Words.{source_words}
 use Rattle.dm_asm.specs.declared.forms.Form.{Form}
-use Rattle.dm_asm.specs.declared.forms.Form.TheVariants.{Instruction, Word, Byte, Zero}
+use Rattle.dm_asm.specs.declared.forms.Form.TheVariants.{Instruction, Word, Byte, Zero, Align, Ascii}
 use Rattle.dm_asm.specs.declared.forms.Shape.{Shape}
 use Rattle.dm_asm.specs.declared.forms.Shape.TheVariants.{RegisterValue, TwoRegisters, ThreeRegisters, Access, Jump, Branch, Call}
 use Rattle.dm_asm.specs.declared.refusals.Why.{Why}
@@ -14,6 +14,7 @@ use Rattle.dm_asm.specs.Forms.{form_of, shape_of}
 use Rattle.dm_asm.specs.Lines.{without_comment}
 use Rattle.dm_asm.specs.Numbers.{is_label_name, literal_value, register_of}
 use Rattle.dm_asm.specs.Operands.{wanted_number}
+use Rattle.dm_asm.specs.Places.{behind_label}
 use Rattle.dm_explain.specs.declared.source.Last.{Last}
 use Rattle.dm_explain.specs.declared.source.Last.TheVariants as last
 use Rattle.dm_explain.specs.declared.source.Takes.{Takes}
@@ -35,7 +36,7 @@ shape_takes ThreeRegisters = takes 3 last.Nothing
 shape_takes Access = takes 2 (last.Number 255)
 shape_takes Jump = takes 0 (last.Value 65535)
 shape_takes Branch = takes 2 last.Label
-shape_takes Call = takes 0 (last.Number 255)
+shape_takes Call = takes 0 last.Call
 
 -- the operands of an instruction or directive
 abbrev pub takes_of : Form → Takes
@@ -43,6 +44,8 @@ takes_of (Instruction op) = shape_takes (shape_of op)
 takes_of Word = takes 0 (last.Value 4294967295)
 takes_of Byte = takes 0 last.Bytes
 takes_of Zero = takes 0 (last.Number 65536)
+takes_of Align = takes 0 last.Multiple
+takes_of Ascii = takes 0 last.Text
 
 -- the same of a word, where it is one
 unfoldable pub takes_named : List ℕ → Option Takes
@@ -93,6 +96,9 @@ is_fine_last last.Nothing w = false
 is_fine_last (last.Number n) w = false
 is_fine_last (last.Value n) w = false
 is_fine_last last.Label w = false
+is_fine_last last.Call w = false
+is_fine_last last.Multiple w = false
+is_fine_last last.Text w = false
 
 -- the operand at a place isn't the one that is refused
 unfoldable pub is_fine : Takes → ℕ → List ℕ → Bool
@@ -106,6 +112,9 @@ bad_word t i (w ∷ ws) = if is_fine t i w then bad_word t (i + 1) ws else Some 
 -- what must stand where a number or a label is refused
 abbrev pub missing_value_words : Last → List ℕ
 missing_value_words last.Label = codes "a label must stand where none stands"
+missing_value_words last.Text = codes "a text in quotation marks must stand where none stands"
+missing_value_words last.Multiple = codes "a number must stand where none stands"
+missing_value_words last.Call = codes "a number or call must stand where none stands"
 missing_value_words (last.Number n) = codes "a number must stand where none stands"
 missing_value_words last.Bytes = codes "a number must stand where none stands"
 missing_value_words (last.Value n) = codes "a number or label must stand where none stands"
@@ -128,6 +137,9 @@ abbrev pub last_range : Last → List ℕ
 last_range last.Nothing = []
 last_range (last.Number n) = most_told n
 last_range (last.Value n) = most_told n
+last_range last.Text = []
+last_range last.Multiple = codes ", must be 1 to 65536"
+last_range last.Call = codes ", must be 0 to 255"
 last_range last.Bytes = codes ", must be 0 to 255"
 last_range last.Label = codes ", must be -128 to 127 whole words from the next instruction"
 
@@ -142,6 +154,9 @@ due_behind n last.Bytes there = bytes_due there
 due_behind n (last.Number most) there = count_words_told (n + 1) there
 due_behind n (last.Value most) there = count_words_told (n + 1) there
 due_behind n last.Label there = count_words_told (n + 1) there
+due_behind n last.Call there = count_words_told (n + 1) there
+due_behind n last.Multiple there = count_words_told (n + 1) there
+due_behind n last.Text there = count_words_told (n + 1) there
 
 abbrev pub due_told : Takes → ℕ → List ℕ
 due_told t there = due_behind t.registers t.last there
@@ -191,13 +206,19 @@ no_label_in (w ∷ ws) = if is_no_label w then Some w else None
 unfoldable pub no_label : List ℕ → Option (List ℕ)
 no_label line = no_label_in (source_words (without_comment line))
 
-abbrev pub label_told : Option (List ℕ) → List ℕ
-label_told None = []
-label_told (Some w) = no_label_told w
+-- the first of some words is none that there is
+abbrev pub no_word_told : List (List ℕ) → List ℕ
+no_word_told [] = []
+no_word_told (w ∷ ws) = concat (codes ": " ∷ quoted w ∷ codes " is no instruction and no directive" ∷ [])
+
+-- a word that ends as a label does and is none, or what stands where an instruction or directive must
+abbrev pub label_or_word_told : Option (List ℕ) → List (List ℕ) → List ℕ
+label_or_word_told None ws = no_word_told (behind_label ws)
+label_or_word_told (Some w) ws = no_label_told w
 
 -- a line without a word that there is
 abbrev pub unknown_told : List ℕ → List ℕ
-unknown_told line = said (codes "no such word") line ++ label_told (no_label line)
+unknown_told line = said (codes "no such word") line ++ label_or_word_told (no_label line) (source_words (without_comment line))
 
 -- a line with a word that there is
 abbrev pub known_told : Why → Option Source → List ℕ → List ℕ

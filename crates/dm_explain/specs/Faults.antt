@@ -1,12 +1,12 @@
 -- What is wrong with the keys and the numbers of a table.
-use Rattle.std.specs.Prelude.{ℕ, not, Bool, if◌then◌else◌, ℤ, codes, List, [], ◌∷◌, ◌++◌, map, Option, None, Some}
+use Rattle.std.specs.Prelude.{ℕ, not, Bool, ◌||◌, if◌then◌else◌, ℤ, codes, List, [], ◌∷◌, ◌++◌, map, Option, None, Some}
 use Rattle.std.specs.List.{concat, flat_map}
 use Rattle.std.specs.Option.{is_some, option_and_then}
 use Rattle.std.specs.Fmt.{decimal}
-use Rattle.toml.specs.Data.{Data, Members, get, as_array, as_bool, as_integer, as_str, member, no_members, table}
-use Rattle.dm_boot.specs.Tables.{has_only, is_known, number_at}
+use Rattle.toml.specs.Data.{Data, Members, get, array, as_array, as_bool, as_integer, as_str, boolean, datetime, float, integer, member, no_members, string, table}
+use Rattle.dm_boot.specs.Tables.{has_only, has_value, is_known, number_at}
 use Rattle.dm_explain.specs.declared.wanted.Sort.{Sort}
-use Rattle.dm_explain.specs.declared.wanted.Sort.TheVariants.{Integer, Text, Truth, Array}
+use Rattle.dm_explain.specs.declared.wanted.Sort.TheVariants.{Integer, Text, Truth, Array, Place}
 use Rattle.dm_explain.specs.Parts.{integer_text, quoted}
 use Rattle.dm_explain.specs.Wanted.{Wish, Limit, sort_words}
 
@@ -15,6 +15,7 @@ abbrev pub is_sort : Sort → Data → Bool
 is_sort Integer d = is_some (as_integer d)
 is_sort Text d = is_some (as_str d)
 is_sort Truth d = is_some (as_bool d)
+is_sort Place d = is_some (as_integer d) || is_some (as_str d)
 is_sort Array d = is_some (as_array d)
 
 abbrev pub met_by : Wish → Option Data → Bool
@@ -52,15 +53,20 @@ first_unknown keys (member k d ms) = if is_known keys k then first_unknown keys 
 
 abbrev pub unknown_key : List (List ℕ) → Data → Option (List ℕ)
 unknown_key keys (table ms) = first_unknown keys ms
-unknown_key keys _ = None
+unknown_key keys (string s) = None
+unknown_key keys (integer z) = None
+unknown_key keys (float x) = None
+unknown_key keys (boolean b) = None
+unknown_key keys (datetime t) = None
+unknown_key keys (array vs) = None
 
-abbrev pub unknown_told : Option (List ℕ) → List ℕ
-unknown_told None = []
-unknown_told (Some k) = concat (codes ", not " ∷ quoted k ∷ [])
+abbrev pub unknown_key_told : Option (List ℕ) → List ℕ
+unknown_key_told None = []
+unknown_key_told (Some k) = concat (codes ", not " ∷ quoted k ∷ [])
 
 -- the keys that a table may have, and one that it has beside them
 abbrev pub other_keys_told : List Wish → List (List ℕ) → Data → List ℕ
-other_keys_told ws keys d = codes "its keys may be" ++ keys_text ws ++ unknown_told (unknown_key keys d)
+other_keys_told ws keys d = codes "its keys may be" ++ keys_text ws ++ unknown_key_told (unknown_key keys d)
 
 -- what is wrong with the keys of a table, or something else
 unfoldable pub key_fault : List Wish → List ℕ → Data → List ℕ
@@ -75,9 +81,9 @@ integer_at key d = option_and_then as_integer (get key d)
 unfoldable pub limit_told : Limit → Data → List ℕ
 limit_told l d = concat (l.key ∷ codes " = " ∷ integer_text (integer_at l.key d) ∷ codes ", which must be " ∷ decimal l.least ∷ codes " to " ∷ decimal l.most ∷ [])
 
--- the number lies within its limits, or isn't there
+-- the number lies within its limits, or isn't there, or a text stands in its place
 unfoldable pub is_within : Limit → Data → Bool
-is_within l d = is_some (number_at l.most l.least l.most l.key d)
+is_within l d = has_value as_str l.key d || is_some (number_at l.most l.least l.most l.key d)
 
 -- the first number that is outside its limits, or something else
 unfoldable pub number_fault : List Limit → List ℕ → Data → List ℕ

@@ -4,10 +4,12 @@ pub mod Wanted
 pub mod Faults
 pub mod BadSources
 pub mod TextFaults
+pub mod FirstRefused
 pub mod TextPlace
 pub mod Told
 pub mod System
 pub mod SystemParts
 pub mod BadOperands
 pub mod Schedules
+pub mod Naming
 pub mod Explained

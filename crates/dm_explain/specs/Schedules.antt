@@ -88,8 +88,8 @@ range_told machines None = []
 range_told machines (Some b) = operand_told b ++ range_words machines b.operand
 
 -- that there are more operands, or fewer
-abbrev pub count_told : List ℕ → List ℕ
-count_told line = said (codes "more or fewer operands than the word has") line ++ operand_count_told (words line)
+abbrev pub wrong_count_told : List ℕ → List ℕ
+wrong_count_told line = said (codes "more or fewer operands than the word has") line ++ operand_count_told (words line)
 
 -- that an operand is out of its range
 abbrev pub outside_told : ℕ → List ℕ → List ℕ
@@ -98,7 +98,7 @@ outside_told machines line = said (codes "a number is out of range, or no machin
 -- what is wrong with a line, for so many machines
 abbrev pub fault_told : ℕ → LineFault → List ℕ → List ℕ
 fault_told machines UnknownWord line = said (codes "no such word") line
-fault_told machines WrongCount line = count_told line
+fault_told machines WrongCount line = wrong_count_told line
 fault_told machines NotANumber line = missing_told (bad_operand machines (words line)) line
 fault_told machines OutOfRange line = outside_told machines line
 fault_told machines SameMachine line = said (codes "the two machines are one") line

@@ -1,17 +1,18 @@
 -- Which lines of an image's text are refused, and why.
-use Rattle.std.specs.Prelude.{ℕ, ◌+◌, ◌==◌, ◌&&◌, nat_le, nat_lt, Bool, if◌then◌else◌, List, [], ◌∷◌, length, Option, None, Some, Result, Ok, Err, ok_or, option_map}
+use Rattle.std.specs.Prelude.{ℕ, ◌+◌, ◌==◌, ◌&&◌, nat_le, nat_lt, Bool, true, false, if◌then◌else◌, List, [], ◌∷◌, length, Option, None, Some, Result, Ok, Err, ok_or, option_map}
 use Rattle.std.specs.BTreeMap.{get_by}
 use Rattle.std.specs.Cmp.Lexicographic.{slice_cmp}
 use Rattle.std.specs.Ordering.{nat_cmp}
 use Rattle.dm_reading.specs.Words.{source_words}
 use Rattle.dm_asm.specs.declared.labels.Place.{Place}
 use Rattle.dm_asm.specs.declared.refusals.Why.{Why}
-use Rattle.dm_asm.specs.declared.refusals.Why.TheVariants.{UnknownWord, BadRegister, LabelTwice, OperandCount, TooLong}
+use Rattle.dm_asm.specs.declared.refusals.Why.TheVariants.{UnknownWord, BadRegister, BadNumber, LabelTwice, OperandCount, TooLong}
 use Rattle.dm_asm.specs.Lines.{without_comment}
 use Rattle.dm_asm.specs.Numbers.{literal_value, register_of}
-use Rattle.dm_asm.specs.Operands.{distance_of, operand_value, wanted_number}
+use Rattle.dm_asm.specs.Operands.{call_value, distance_of, operand_value, wanted_multiple, wanted_number}
 use Rattle.dm_asm.specs.Places.{behind_label, label_of_words, line_size}
 use Rattle.dm_asm.specs.Statements.{is_twice}
+use Rattle.dm_asm.specs.Texts.{text_in, text_operand}
 use Rattle.dm_explain.specs.declared.program.labels.Labels.{Labels}
 use Rattle.dm_explain.specs.declared.program.labels.Spot.{Spot}
 use Rattle.dm_explain.specs.declared.source.Last.{Last}
@@ -42,6 +43,9 @@ last_why places at last.Nothing w = None
 last_why places at (last.Number most) w = why_of (wanted_number most (literal_value w))
 last_why places at (last.Value most) w = why_of (operand_value places most w)
 last_why places at last.Label w = why_of (distance_of places at w)
+last_why places at last.Multiple w = why_of (wanted_multiple (literal_value w))
+last_why places at last.Text w = None
+last_why places at last.Call w = why_of (call_value w)
 last_why places at last.Bytes w = why_of (wanted_number 255 (literal_value w))
 
 -- why the operand at a place is
@@ -60,24 +64,46 @@ is_due n last.Bytes there = nat_lt 0 there
 is_due n (last.Number most) there = there == n + 1
 is_due n (last.Value most) there = there == n + 1
 is_due n last.Label there = there == n + 1
+is_due n last.Call there = there == n + 1
+is_due n last.Multiple there = there == n + 1
+is_due n last.Text there = nat_lt 0 there
 
--- why an instruction or directive is refused with its operands; the label before it may be defined before
-abbrev pub takes_why : (List ℕ → Option Place) → ℕ → Bool → Takes → List (List ℕ) → Option Why
-takes_why places at twice t ws =
-    if twice then Some LabelTwice else (if is_due t.registers t.last (length ws) then operands_why places at t 1 ws else Some OperandCount)
+-- a text stands behind the registers
+abbrev pub is_text : Last → Bool
+is_text last.Nothing = false
+is_text (last.Number most) = false
+is_text (last.Value most) = false
+is_text last.Label = false
+is_text last.Call = false
+is_text last.Multiple = false
+is_text last.Bytes = false
+is_text last.Text = true
 
-abbrev pub named_why : (List ℕ → Option Place) → ℕ → Bool → Option Takes → List (List ℕ) → Option Why
-named_why places at twice None ws = Some UnknownWord
-named_why places at twice (Some t) ws = takes_why places at twice t ws
+-- why a text is refused as operand
+abbrev pub text_why : Option (List ℕ) → List (List ℕ) → Option Why
+text_why text ws = why_of (ok_or (text_operand text ws) BadNumber)
+
+-- why as many operands as there must be are refused, in a line with this text
+abbrev pub given_why : (List ℕ → Option Place) → ℕ → Option (List ℕ) → Takes → List (List ℕ) → Option Why
+given_why places at text t ws = if is_text t.last then text_why text ws else operands_why places at t 1 ws
+
+-- why an instruction or directive is refused with its operands, in a line with this text; the label before it may be defined before
+abbrev pub takes_why : (List ℕ → Option Place) → ℕ → Bool → Option (List ℕ) → Takes → List (List ℕ) → Option Why
+takes_why places at twice text t ws =
+    if twice then Some LabelTwice else (if is_due t.registers t.last (length ws) then given_why places at text t ws else Some OperandCount)
+
+abbrev pub named_why : (List ℕ → Option Place) → ℕ → Bool → Option (List ℕ) → Option Takes → List (List ℕ) → Option Why
+named_why places at twice text None ws = Some UnknownWord
+named_why places at twice text (Some t) ws = takes_why places at twice text t ws
 
 -- why what stands behind a label is
-unfoldable pub statement_why : (List ℕ → Option Place) → ℕ → Bool → List (List ℕ) → Option Why
-statement_why places at twice [] = if twice then Some LabelTwice else None
-statement_why places at twice (w ∷ ws) = named_why places at twice (takes_named w) ws
+unfoldable pub statement_why : (List ℕ → Option Place) → ℕ → Bool → Option (List ℕ) → List (List ℕ) → Option Why
+statement_why places at twice text [] = if twice then Some LabelTwice else None
+statement_why places at twice text (w ∷ ws) = named_why places at twice text (takes_named w) ws
 
 -- why the words of a line are, by its number and address
-abbrev pub words_why : (List ℕ → Option Place) → ℕ → ℕ → List (List ℕ) → Option Why
-words_why places number at ws = statement_why places at (is_twice places number (label_of_words ws)) (behind_label ws)
+abbrev pub words_why : (List ℕ → Option Place) → ℕ → ℕ → Option (List ℕ) → List (List ℕ) → Option Why
+words_why places number at text ws = statement_why places at (is_twice places number (label_of_words ws)) text (behind_label ws)
 
 -- the image has more bytes than it may have with these, and hadn't before
 abbrev pub long_why : ℕ → ℕ → Option Why
@@ -85,4 +111,4 @@ long_why at size = if nat_le at 65536 && nat_lt 65536 (at + size) then Some TooL
 
 -- why a line is
 unfoldable pub line_why : (List ℕ → Option Place) → ℕ → ℕ → List ℕ → Option Why
-line_why places number at line = or_why (words_why places number at (source_words (without_comment line))) (long_why at (line_size line))
+line_why places number at line = or_why (words_why places number at (text_in (without_comment line)) (source_words (without_comment line))) (long_why at (line_size at line))

@@ -3,12 +3,13 @@ use Rattle.std.specs.Prelude.{ℕ, codes, List, [], ◌∷◌, Bool, true, false
 use Rattle.dm_explain.specs.declared.wanted.Key.{Key}
 use Rattle.dm_explain.specs.declared.wanted.Range.{Range}
 use Rattle.dm_explain.specs.declared.wanted.Sort.{Sort}
-use Rattle.dm_explain.specs.declared.wanted.Sort.TheVariants.{Integer, Text, Truth, Array}
+use Rattle.dm_explain.specs.declared.wanted.Sort.TheVariants.{Integer, Text, Truth, Array, Place}
 
 abbrev pub sort_words : Sort → List ℕ
 sort_words Integer = codes "an integer"
 sort_words Text = codes "a text"
 sort_words Truth = codes "true or false"
+sort_words Place = codes "an integer or a text"
 sort_words Array = codes "an array of tables"
 
 -- what a key must be, and whether it must be there
@@ -42,7 +43,7 @@ process_wishes = must (codes "name") Text ∷ must (codes "image") Text ∷ must
 
 abbrev pub link_wishes : List Wish
 link_wishes =
-    must (codes "to") Text ∷ may (codes "code") Integer ∷ may (codes "channel") Integer ∷ may (codes "base") Integer ∷ may (codes "len") Integer
+    must (codes "to") Text ∷ may (codes "code") Integer ∷ may (codes "channel") Integer ∷ may (codes "base") Place ∷ may (codes "len") Place
     ∷ may (codes "reply") Truth ∷ may (codes "read") Truth ∷ may (codes "write") Truth ∷ []
 
 abbrev pub control_wishes : List Wish

@@ -6,13 +6,13 @@ ghost use Rattle.std.specs.Str.{bytes_eq};
 ghost use Rattle.toml.specs.Data.{get};
 ghost use Rattle.toml.specs.View.{table_view, view};
 ghost use Rattle.dm_boot.specs.Tables.{has_only, is_known};
-ghost use Rattle.dm_explain.specs.Faults.{absence_told, first_unknown, integer_at, is_met, is_sort, is_within, key_fault, keys_text, limit_told, number_fault, other_keys_told, unknown_key, unknown_told, wish_fault, wish_told};
+ghost use Rattle.dm_explain.specs.Faults.{absence_told, first_unknown, integer_at, is_met, is_sort, is_within, key_fault, keys_text, limit_told, number_fault, other_keys_told, unknown_key, unknown_key_told, wish_fault, wish_told};
 ghost use Rattle.dm_explain.specs.Parts.{part_text};
 ghost use Rattle.dm_explain.specs.Wanted.{limit_of, wish_of};
 
 use crate::part::{Part, put, put_parts};
 use crate::wanted::{Key, Range, Sort};
-use dm_boot::tables::{has_only, number_at};
+use dm_boot::tables::{has_only, has_text, number_at};
 use dm_memory::NoMemory;
 use toml::{Table, Value};
 
@@ -23,10 +23,10 @@ pub fn put_key_fault(
     table: &Value,
     keys: &[Key],
     names: &[&str],
-    other: &'static str,
+    other: &[Part],
 ) -> Result<(), NoMemory>
     requires { map (λ n. n.now) names.now ≡ map (λ w. w.key) (map wish_of keys.now) }
-    ensures { OnOk result (into.new.items ≡ into.old.items ++ key_fault (map wish_of keys.now) other.now (view table.now)) }
+    ensures { OnOk result (into.new.items ≡ into.old.items ++ key_fault (map wish_of keys.now) (concat (map part_text other.now)) (view table.now)) }
 {
     if has_only(table, names) {
         put_wish_fault(into, table, keys, other)
@@ -52,7 +52,7 @@ fn put_other_keys(
 
 /// Writes a key that is none of those that a table may have.
 fn put_unknown(into: &mut Vec<u8>, key: Option<&str>) -> Result<(), NoMemory>
-    ensures { OnOk result (into.new.items ≡ into.old.items ++ unknown_told (option_copied key.entry)) }
+    ensures { OnOk result (into.new.items ≡ into.old.items ++ unknown_key_told (option_copied key.entry)) }
 {
     match key {
         Some(key) => put_parts(into, &[Part::Text(", not "), Part::Quoted(key)]),
@@ -66,7 +66,12 @@ fn unknown_key<'a>(value: &'a Value, names: &[&str]) -> Option<&'a str>
 {
     match value {
         Value::Table(table) => first_unknown(table, names),
-        _ => None,
+        Value::String(_)
+        | Value::Integer(_)
+        | Value::Float(_)
+        | Value::Boolean(_)
+        | Value::Datetime(_)
+        | Value::Array(_) => None,
     }
 }
 
@@ -109,16 +114,16 @@ fn put_wish_fault(
     into: &mut Vec<u8>,
     table: &Value,
     keys: &[Key],
-    other: &'static str,
+    other: &[Part],
 ) -> Result<(), NoMemory>
-    ensures { OnOk result (into.new.items ≡ into.old.items ++ wish_fault (map wish_of keys.now) other.now (view table.now)) }
+    ensures { OnOk result (into.new.items ≡ into.old.items ++ wish_fault (map wish_of keys.now) (concat (map part_text other.now)) (view table.now)) }
 {
     for key in keys {
         if !is_met(key, table) {
             return put_wish(into, key, table);
         }
     }
-    put(into, other)
+    put_parts(into, other)
 }
 
 /// Writes what a key must be, and whether it is missing.
@@ -165,6 +170,7 @@ fn is_sort(sort: Sort, found: &Value) -> bool
         Sort::Text => found.is_str(),
         Sort::Truth => found.is_bool(),
         Sort::Array => found.is_array(),
+        Sort::Place => found.is_integer() || found.is_str(),
     }
 }
 
@@ -198,12 +204,13 @@ pub fn put_number_fault(
     put_parts(into, other)
 }
 
-/// Whether a number lies within its limits, or isn't there.
+/// Whether a number lies within its limits, or isn't there, or a text stands in its place.
 #[tactic(auto, unfolding(crate::specs::Faults::is_within))]
 fn is_within(range: &Range, table: &Value) -> bool
     ensures { result ≡ is_within (limit_of range.now) (view table.now) }
 {
-    number_at(table, range.name, range.most, range.least, range.most).is_some()
+    has_text(table, range.name)
+        || number_at(table, range.name, range.most, range.least, range.most).is_some()
 }
 
 /// Writes a number that is outside its limits.

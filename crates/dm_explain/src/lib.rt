@@ -3,7 +3,9 @@
 
 pub mod explain;
 mod faults;
+pub mod laws;
 mod line;
+mod naming;
 mod part;
 mod program;
 mod schedule;
@@ -15,3 +17,4 @@ mod wanted;
 mod wrong;
 
 pub use explain::{BootTold, ScheduleTold, explain_boot, explain_schedule};
+pub use naming::explain_name;

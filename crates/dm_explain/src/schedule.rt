@@ -4,7 +4,7 @@ ghost use Rattle.std.specs.Fmt.{decimal};
 ghost use Rattle.std.specs.List.{concat};
 ghost use Rattle.dm_reading.specs.Words.{words};
 ghost use Rattle.dm_explain.specs.BadOperands.{bad_of, count_words_told, operand_count_told, operand_of, operand_told, range_words};
-ghost use Rattle.dm_explain.specs.Schedules.{count_told, directives_told, fault_told, is_of, line_told, missing_told, number_note, outside_told, range_told, said};
+ghost use Rattle.dm_explain.specs.Schedules.{directives_told, fault_told, is_of, line_told, missing_told, number_note, outside_told, range_told, said, wrong_count_told};
 
 use crate::line::schedule_line;
 use crate::part::{Part, put, put_parts};
@@ -135,7 +135,7 @@ fn put_fault(
 /// Writes that a word has another number of operands.
 #[tactic(auto, using(crate::proofs::Pieces::join_lemmas))]
 fn put_wrong_count(into: &mut Vec<u8>, line: &[u8]) -> Result<(), NoMemory>
-    ensures { OnOk result (into.new.items ≡ into.old.items ++ count_told line.now) }
+    ensures { OnOk result (into.new.items ≡ into.old.items ++ wrong_count_told line.now) }
 {
     put_said(into, "more or fewer operands than the word has", line)?;
     put_count(into, line)

@@ -24,6 +24,12 @@ pub enum Last {
     Value(u32),
     /// A label that isn't far.
     Label,
+    /// A call, by its number or its name.
+    Call,
+    /// A number of which an address is to be a multiple.
+    Multiple,
+    /// A text between quotation marks.
+    Text,
     /// One or more numbers, each of a byte.
     Bytes,
 }
@@ -136,7 +142,7 @@ fn takes_of(op: Opcode) -> Takes
         Opcode::Lw | Opcode::Sw | Opcode::Lb | Opcode::Sb => taking(2, Last::Number(255)),
         Opcode::Jmp => taking(0, Last::Value(65_535)),
         Opcode::Beq | Opcode::Bne | Opcode::Bltu => taking(2, Last::Label),
-        Opcode::Sys => taking(0, Last::Number(255)),
+        Opcode::Sys => taking(0, Last::Call),
     }
 }
 
@@ -151,6 +157,10 @@ pub fn takes_named(word: &[u8]) -> Option<Takes>
         Some(taking(0, Last::Bytes))
     } else if word == b".zero".as_slice() {
         Some(taking(0, Last::Number(65_536)))
+    } else if word == b".align".as_slice() {
+        Some(taking(0, Last::Multiple))
+    } else if word == b".ascii".as_slice() {
+        Some(taking(0, Last::Text))
     } else {
         opcode_named(word).map(takes_of)
     }

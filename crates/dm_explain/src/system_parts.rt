@@ -182,7 +182,7 @@ fn put_named(
 }
 
 /// Writes a text of a file as it is.
-fn put_text(into: &mut Vec<u8>, text: &str) -> Result<(), NoMemory>
+pub fn put_text(into: &mut Vec<u8>, text: &str) -> Result<(), NoMemory>
     ensures { OnOk result (into.new.items ≡ into.old.items ++ text.now) }
 {
     extend_from_slice(into, text.as_bytes())

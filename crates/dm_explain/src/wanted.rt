@@ -10,6 +10,8 @@ pub enum Sort {
     Truth,
     /// An array of tables.
     Array,
+    /// An integer, or a label.
+    Place,
 }
 
 impl Sort {
@@ -22,6 +24,7 @@ impl Sort {
             Sort::Text => "a text",
             Sort::Truth => "true or false",
             Sort::Array => "an array of tables",
+            Sort::Place => "an integer or a text",
         }
     }
 }
@@ -111,8 +114,8 @@ pub fn link_keys() -> [Key; 8]
         needed("to", Sort::Text),
         optional("code", Sort::Integer),
         optional("channel", Sort::Integer),
-        optional("base", Sort::Integer),
-        optional("len", Sort::Integer),
+        optional("base", Sort::Place),
+        optional("len", Sort::Place),
         optional("reply", Sort::Truth),
         optional("read", Sort::Truth),
         optional("write", Sort::Truth),

@@ -6,10 +6,12 @@ ghost use Rattle.dm_reading.specs.Words.{source_words};
 ghost use Rattle.dm_asm.specs.Assembled.{places_of};
 ghost use Rattle.dm_asm.specs.Forms.{form_of};
 ghost use Rattle.dm_asm.specs.Lines.{without_comment};
-ghost use Rattle.dm_asm.specs.Places.{behind_label, first_of, form_size, has_label, label_in, label_of_words, line_size, statement_size, zeros_size};
+ghost use Rattle.dm_asm.specs.Places.{behind_label, first_of, form_size, has_label, label_in, label_of_words, line_size, padding_size, statement_size, text_size, zeros_size};
+ghost use Rattle.dm_asm.specs.Texts.{text_in, text_operand};
 ghost use Rattle.dm_explain.specs.TextFaults.{place_in, place_of};
 
 use crate::source::{is_label, number, opcode_named, uncommented};
+use dm_asm::{padding, text_operand};
 use dm_memory::{NoMemory, insert};
 use dm_reading::{Gap, count_words, first_source_line, next_word};
 use std::alloc::Global;
@@ -85,7 +87,7 @@ impl<'t> Labels<'t> {
             labels.add_line(line, spot)?;
             spot = Spot {
                 line: spot.line + 1,
-                address: spot.address + line_counted(line) as u128,
+                address: spot.address + line_counted(spot.address, line) as u128,
             };
             rest = behind;
         }
@@ -109,7 +111,7 @@ fn label_of_word(word: &[u8]) -> Option<&[u8]>
 }
 
 /// The label of a line without its comment, and what stands behind it.
-pub(super) fn split_label(line: &[u8]) -> (Option<&[u8]>, &[u8])
+pub fn split_label(line: &[u8]) -> (Option<&[u8]>, &[u8])
     ensures label { option_copied result.0 ≡ label_of_words (source_words line.now) }
     ensures rest { source_words result.1.now ≡ behind_label (source_words line.now) }
 {
@@ -123,7 +125,7 @@ pub(super) fn split_label(line: &[u8]) -> (Option<&[u8]>, &[u8])
 }
 
 /// The label that a line defines, whatever stands behind it.
-fn defined_by(line: &[u8]) -> Option<&[u8]>
+pub fn defined_by(line: &[u8]) -> Option<&[u8]>
     ensures { option_copied result ≡ label_of_words (source_words (without_comment line.now)) }
 {
     let (label, _) = split_label(uncommented(line));
@@ -146,10 +148,36 @@ fn zeros_counted(operands: &[u8]) -> usize
     }
 }
 
-/// How many bytes the instruction or directive counts that a word names.
+/// How many zeros the operands of `.align` ask for at an address, if they are good.
+fn padding_counted(at: u128, operands: &[u8]) -> usize
+    ensures { result ≡ padding_size at (source_words operands.now) }
+{
+    if count_words(operands, Gap::Separators) != 1 {
+        return 0;
+    }
+    match next_word(operands, Gap::Separators) {
+        Some((word, _)) => match number(word) {
+            Some(n) if n >= 1 && n <= 65_536 => padding(at, n as u32) as usize,
+            _ => 0,
+        },
+        None => 0,
+    }
+}
+
+/// How many bytes the text of `.ascii` has in a line, if it is a good one.
+fn text_counted(line: &[u8], operands: &[u8]) -> usize
+    ensures { result ≡ text_size (text_operand (text_in line.now) (source_words operands.now)) }
+{
+    match text_operand(line, operands) {
+        Some(text) => text.len(),
+        None => 0,
+    }
+}
+
+/// How many bytes the instruction or directive counts at an address that a word names, in a line without its comment.
 #[tactic(auto, unfolding(dm_asm::specs::Forms::form_of))]
-fn form_counted(word: &[u8], operands: &[u8]) -> usize
-    ensures { result ≡ form_size (form_of word.now) (source_words operands.now) }
+fn form_counted(at: u128, line: &[u8], word: &[u8], operands: &[u8]) -> usize
+    ensures { result ≡ form_size at (text_in line.now) (form_of word.now) (source_words operands.now) }
 {
     if word == b".word".as_slice() {
         4
@@ -157,6 +185,10 @@ fn form_counted(word: &[u8], operands: &[u8]) -> usize
         count_words(operands, Gap::Separators)
     } else if word == b".zero".as_slice() {
         zeros_counted(operands)
+    } else if word == b".align".as_slice() {
+        padding_counted(at, operands)
+    } else if word == b".ascii".as_slice() {
+        text_counted(line, operands)
     } else {
         match opcode_named(word) {
             Some(_) => 4,
@@ -165,21 +197,22 @@ fn form_counted(word: &[u8], operands: &[u8]) -> usize
     }
 }
 
-/// How many bytes a statement counts.
-fn statement_counted(statement: &[u8]) -> usize
-    ensures { result ≡ statement_size (source_words statement.now) }
+/// How many bytes a statement counts at an address, in a line without its comment.
+fn statement_counted(at: u128, line: &[u8], statement: &[u8]) -> usize
+    ensures { result ≡ statement_size at (text_in line.now) (source_words statement.now) }
 {
     match next_word(statement, Gap::Separators) {
         None => 0,
-        Some((word, operands)) => form_counted(word, operands),
+        Some((word, operands)) => form_counted(at, line, word, operands),
     }
 }
 
-/// How many bytes a line counts.
+/// How many bytes a line counts at an address.
 #[tactic(auto, unfolding(dm_asm::specs::Places::line_size))]
-pub fn line_counted(line: &[u8]) -> usize
-    ensures { result ≡ line_size line.now }
+pub fn line_counted(at: u128, line: &[u8]) -> usize
+    ensures { result ≡ line_size at line.now }
 {
-    let (_, statement) = split_label(uncommented(line));
-    statement_counted(statement)
+    let line = uncommented(line);
+    let (_, statement) = split_label(line);
+    statement_counted(at, line, statement)
 }

@@ -4,6 +4,6 @@ mod labels;
 mod place;
 mod refusals;
 
-pub use labels::{Labels, line_counted};
+pub use labels::{Labels, defined_by, line_counted, split_label};
 pub use place::line_before;
 pub use refusals::line_why;

@@ -1,16 +1,17 @@
 //! Why a line of an image's text is refused.
 ghost use Rattle.std.specs.Prelude.{◌≡◌, ◌≤◌, ◌^◌, ok_or};
-ghost use Rattle.std.specs.Option.{option_copied};
+ghost use Rattle.std.specs.Option.{is_some, option_copied};
 ghost use Rattle.dm_reading.specs.Words.{source_words};
-ghost use Rattle.dm_asm.specs.Numbers.{begins_name, literal_value, register_of};
-ghost use Rattle.dm_asm.specs.Operands.{distance, distance_of, operand_value, wanted_number};
+ghost use Rattle.dm_asm.specs.Numbers.{begins_name, call_named, literal_value, register_of};
+ghost use Rattle.dm_asm.specs.Operands.{call_value, distance, distance_of, operand_value, wanted_multiple, wanted_number};
 ghost use Rattle.dm_asm.specs.Statements.{is_twice};
 ghost use Rattle.dm_asm.specs.declared.refusals.Why.TheVariants.{BadRegister};
-ghost use Rattle.dm_explain.specs.TextFaults.{is_due, last_why, line_why, long_why, operand_why, operands_why, place_in, statement_why, takes_why, why_of, words_why};
+ghost use Rattle.dm_asm.specs.Texts.{text_in};
+ghost use Rattle.dm_explain.specs.TextFaults.{given_why, is_due, is_text, last_why, line_why, long_why, operand_why, operands_why, place_in, statement_why, takes_why, text_why, why_of, words_why};
 
 use crate::program::labels::{Labels, line_counted, split_label};
 use crate::source::{Last, Takes, is_register, number, takes_named, uncommented};
-use dm_asm::Why;
+use dm_asm::{Why, text_operand};
 use dm_processor::MOST_MEMORY;
 use dm_reading::{Gap, count_words, next_word};
 
@@ -55,6 +56,44 @@ fn value_why(labels: &Labels, word: &[u8], most: u32) -> Option<Why>
         None => Some(Why::UnknownLabel),
         Some(spot) if spot.address <= u128::from(most) => None,
         Some(_) => Some(Why::OutOfRange),
+    }
+}
+
+/// Why a word is no number of which an address is to be a multiple, 1 to 65,536, if it is none.
+fn multiple_why(word: &[u8]) -> Option<Why>
+    ensures { result ≡ why_of (wanted_multiple (literal_value word.now)) }
+{
+    match number(word) {
+        None => Some(Why::BadNumber),
+        Some(n) if n >= 1 && n <= 65_536 => None,
+        Some(_) => Some(Why::OutOfRange),
+    }
+}
+
+/// Whether a word names a call.
+#[tactic(auto, unfolding(dm_asm::specs::Numbers::call_named))]
+fn is_call(word: &[u8]) -> bool
+    ensures { result ≡ is_some (call_named word.now) }
+{
+    word == b"EXIT".as_slice()
+        || word == b"OUT".as_slice()
+        || word == b"MAKE".as_slice()
+        || word == b"COPY".as_slice()
+        || word == b"DROP".as_slice()
+        || word == b"SEND".as_slice()
+        || word == b"RECEIVE".as_slice()
+        || word == b"MOVE".as_slice()
+}
+
+/// Why a word is no call, by its number or its name, if it is none.
+#[tactic(auto, unfolding(dm_asm::specs::Operands::call_value))]
+fn call_why(word: &[u8]) -> Option<Why>
+    ensures { result ≡ why_of (call_value word.now) }
+{
+    if is_call(word) {
+        None
+    } else {
+        number_why(word, 255)
     }
 }
 
@@ -106,6 +145,9 @@ fn last_why(labels: &Labels, at: u128, last: Last, word: &[u8]) -> Option<Why>
         Last::Number(most) => number_why(word, most),
         Last::Value(most) => value_why(labels, word, most),
         Last::Label => target_why(labels, at, word),
+        Last::Call => call_why(word),
+        Last::Multiple => multiple_why(word),
+        Last::Text => None,
         Last::Bytes => number_why(word, 255),
     }
 }
@@ -148,20 +190,58 @@ fn is_due(takes: Takes, there: usize) -> bool
     let registers = usize::from(takes.registers);
     match takes.last {
         Last::Nothing => there == registers,
-        Last::Bytes => there > 0,
-        Last::Number(_) | Last::Value(_) | Last::Label => there == registers + 1,
+        Last::Bytes | Last::Text => there > 0,
+        Last::Number(_) | Last::Value(_) | Last::Label | Last::Call | Last::Multiple => {
+            there == registers + 1
+        }
     }
 }
 
-/// Why an instruction or directive is refused, if it is; the label before it may be defined before.
-fn takes_why(labels: &Labels, at: u128, twice: bool, takes: Takes, operands: &[u8]) -> Option<Why>
+/// Whether a text stands behind the registers.
+fn is_text(last: Last) -> bool
+    ensures { result ≡ is_text last }
+{
+    matches!(last, Last::Text)
+}
+
+/// Why no text stands as operand in a line without its comment, if none does.
+fn text_why(line: &[u8], operands: &[u8]) -> Option<Why>
+    ensures { result ≡ text_why (text_in line.now) (source_words operands.now) }
+{
+    match text_operand(line, operands) {
+        Some(_) => None,
+        None => Some(Why::BadNumber),
+    }
+}
+
+/// Why as many operands as there must be are refused, in a line without its comment, if they are.
+fn given_why(labels: &Labels, at: u128, line: &[u8], takes: Takes, operands: &[u8]) -> Option<Why>
     requires { at ≤ 2 ^ 127 }
-    ensures { result ≡ takes_why (place_in labels.now) at twice takes (source_words operands.now) }
+    ensures { result ≡ given_why (place_in labels.now) at (text_in line.now) takes (source_words operands.now) }
+{
+    if is_text(takes.last) {
+        text_why(line, operands)
+    } else {
+        operands_why(labels, at, takes, operands)
+    }
+}
+
+/// Why an instruction or directive is refused, if it is, in a line without its comment; the label before it may be defined before.
+fn takes_why(
+    labels: &Labels,
+    at: u128,
+    twice: bool,
+    line: &[u8],
+    takes: Takes,
+    operands: &[u8],
+) -> Option<Why>
+    requires { at ≤ 2 ^ 127 }
+    ensures { result ≡ takes_why (place_in labels.now) at twice (text_in line.now) takes (source_words operands.now) }
 {
     if twice {
         Some(Why::LabelTwice)
     } else if is_due(takes, count_words(operands, Gap::Separators)) {
-        operands_why(labels, at, takes, operands)
+        given_why(labels, at, line, takes, operands)
     } else {
         Some(Why::OperandCount)
     }
@@ -169,16 +249,22 @@ fn takes_why(labels: &Labels, at: u128, twice: bool, takes: Takes, operands: &[u
 
 /// Why what stands behind a label is refused, if it is.
 #[tactic(auto, unfolding(crate::specs::TextFaults::statement_why))]
-fn statement_why(labels: &Labels, at: u128, twice: bool, statement: &[u8]) -> Option<Why>
+fn statement_why(
+    labels: &Labels,
+    at: u128,
+    twice: bool,
+    line: &[u8],
+    statement: &[u8],
+) -> Option<Why>
     requires { at ≤ 2 ^ 127 }
-    ensures { result ≡ statement_why (place_in labels.now) at twice (source_words statement.now) }
+    ensures { result ≡ statement_why (place_in labels.now) at twice (text_in line.now) (source_words statement.now) }
 {
     match next_word(statement, Gap::Separators) {
         None if twice => Some(Why::LabelTwice),
         None => None,
         Some((word, operands)) => match takes_named(word) {
             None => Some(Why::UnknownWord),
-            Some(takes) => takes_why(labels, at, twice, takes, operands),
+            Some(takes) => takes_why(labels, at, twice, line, takes, operands),
         },
     }
 }
@@ -199,10 +285,16 @@ fn is_twice(labels: &Labels, number: usize, label: Option<&[u8]>) -> bool
 /// Why the words of a line are refused, by its number and address, if they are.
 fn words_why(labels: &Labels, number: usize, at: u128, words: &[u8]) -> Option<Why>
     requires { at ≤ 2 ^ 127 }
-    ensures { result ≡ words_why (place_in labels.now) number at (source_words words.now) }
+    ensures { result ≡ words_why (place_in labels.now) number at (text_in words.now) (source_words words.now) }
 {
     let (label, statement) = split_label(words);
-    statement_why(labels, at, is_twice(labels, number, label), statement)
+    statement_why(
+        labels,
+        at,
+        is_twice(labels, number, label),
+        words,
+        statement,
+    )
 }
 
 /// Whether an image has more bytes than it may have with these, and hadn't before.
@@ -226,6 +318,6 @@ pub fn line_why(labels: &Labels, number: usize, at: u128, line: &[u8]) -> Option
 {
     match words_why(labels, number, at, uncommented(line)) {
         Some(why) => Some(why),
-        None => long_why(at, line_counted(line)),
+        None => long_why(at, line_counted(at, line)),
     }
 }

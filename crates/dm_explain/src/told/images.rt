@@ -12,32 +12,47 @@ use crate::told::elements::{put_name, put_numbered, put_titled};
 use crate::told::programs::put_line;
 use crate::wanted::{image_keys, image_ranges, machine_keys, machine_ranges};
 use dm_asm::{AssembleError, Image, assemble};
-use dm_boot::BootRule;
 use dm_boot::names::is_name;
 use dm_boot::tables::text_at;
 use dm_memory::NoMemory;
 use std::alloc::Global;
 use toml::Value;
 
+/// A rule of machines.
+#[derive(Clone, Copy)]
+pub enum MachineRule {
+    Keys,
+    Room,
+}
+
+/// A rule of images.
+#[derive(Clone, Copy)]
+pub enum ImageRule {
+    Keys,
+    Name,
+    Blocks,
+    Text,
+    Bytes,
+}
+
 /// Writes what is wrong with a machine.
 pub(super) fn put_machine(
     into: &mut Vec<u8>,
-    rule: BootRule,
+    rule: MachineRule,
     place: u64,
     machine: &Value,
 ) -> Result<(), NoMemory>
     ensures { OnOk result (into.new.items ≡ into.old.items ++ machine_rule_told rule place (view machine.now)) }
 {
     match rule {
-        BootRule::MachineKeys => {
+        MachineRule::Keys => {
             put_numbered(into, "machine", place)?;
-            put_key_fault(into, machine, &machine_keys(), &["slots", "blocks"], "")
+            put_key_fault(into, machine, &machine_keys(), &["slots", "blocks"], &[])
         }
-        BootRule::MachineRoom => {
+        MachineRule::Room => {
             put_numbered(into, "machine", place)?;
             put_number_fault(into, machine, &machine_ranges(), &[])
         }
-        _ => Ok(()),
     }
 }
 
@@ -45,28 +60,27 @@ pub(super) fn put_machine(
 pub(super) fn put_image(
     alloc: Global,
     into: &mut Vec<u8>,
-    rule: BootRule,
+    rule: ImageRule,
     place: u64,
     image: &Value,
 ) -> Result<(), NoMemory>
     ensures { OnOk result (into.new.items ≡ into.old.items ++ image_rule_told rule place (view image.now)) }
 {
     match rule {
-        BootRule::ImageKeys => {
+        ImageRule::Keys => {
             put_numbered(into, "image", place)?;
-            put_key_fault(into, image, &image_keys(), &["name", "blocks", "text"], "")
+            put_key_fault(into, image, &image_keys(), &["name", "blocks", "text"], &[])
         }
-        BootRule::ImageName => {
+        ImageRule::Name => {
             put_numbered(into, "image", place)?;
             put_name(into, image, image_name_words(text_at(image, "name")))
         }
-        BootRule::ImageBlocks => {
+        ImageRule::Blocks => {
             put_titled(into, "image", image)?;
             put_number_fault(into, image, &image_ranges(), &[])
         }
-        BootRule::ImageText => put_text(alloc, into, image),
-        BootRule::ImageBytes => put_bytes(alloc, into, image),
-        _ => Ok(()),
+        ImageRule::Text => put_text(alloc, into, image),
+        ImageRule::Bytes => put_bytes(alloc, into, image),
     }
 }
 

@@ -1,19 +1,27 @@
 //! What is said of the links of processes, and of where they lead.
-ghost use Rattle.std.specs.Prelude.{◌≡◌, ◌++◌, OnOk, codes};
+ghost use Rattle.std.specs.Prelude.{◌≡◌, ◌++◌, ◌∷◌, [], OnOk, codes};
+ghost use Rattle.std.specs.List.{concat};
 ghost use Rattle.toml.specs.Data.{get};
 ghost use Rattle.toml.specs.View.{items_view, view};
-ghost use Rattle.dm_boot.specs.Tables.{first_failing};
-ghost use Rattle.dm_explain.specs.Told.{at_link, bad_link, limits_told, link_keeps, link_keys_told, link_rule_told, table_keys_told, target_told};
+ghost use Rattle.dm_boot.specs.Build.{program_of};
+ghost use Rattle.dm_boot.specs.Tables.{first_failing, text_at};
+ghost use Rattle.dm_explain.specs.Faults.{number_fault};
+ghost use Rattle.dm_explain.specs.Parts.{quoted};
+ghost use Rattle.dm_explain.specs.Wanted.{link_limits};
+ghost use Rattle.dm_explain.specs.Told.{area_told, at_link, bad_link, image_name_of, limits_told, link_keeps, link_keys_told, link_rule_told, no_line_told, places_told, table_keys_told, target_told};
 
 use crate::faults::{put_key_fault, put_number_fault};
 use crate::part::{Part, put, put_parts};
 use crate::told::elements::{element, put_numbered};
 use crate::wanted::{channel_ranges, control_keys, link_keys, link_ranges};
+use dm_asm::label_address;
 use dm_boot::document::Document;
 use dm_boot::names::is_server;
 use dm_boot::shapes::is_link;
 use dm_boot::tables::{items_at, text_at};
-use dm_boot::targets::{has_target, is_control, is_limited, memory_of};
+use dm_boot::targets::{
+    base_of, has_target, is_control, is_limited, len_of, memory_of, program_of,
+};
 use dm_memory::NoMemory;
 use toml::Value;
 
@@ -114,7 +122,7 @@ fn put_table_keys(into: &mut Vec<u8>, link: &Value) -> Result<(), NoMemory>
     ensures { OnOk result (into.new.items ≡ into.old.items ++ table_keys_told (view link.now) (get (codes "control") (view link.now))) }
 {
     match link.get("control") {
-        Some(_) => put_key_fault(into, link, &control_keys(), &["control"], ""),
+        Some(_) => put_key_fault(into, link, &control_keys(), &["control"], &[]),
         None => put_key_fault(
             into,
             link,
@@ -122,7 +130,7 @@ fn put_table_keys(into: &mut Vec<u8>, link: &Value) -> Result<(), NoMemory>
             &[
                 "to", "code", "channel", "base", "len", "reply", "read", "write",
             ],
-            "",
+            &[],
         ),
     }
 }
@@ -159,6 +167,95 @@ fn put_limits(into: &mut Vec<u8>, document: &Document<'_>, link: &Value) -> Resu
         let words = "a link to a server has no code, base, len, read or write";
         return put_number_fault(into, link, &channel_ranges(), &[Part::Text(words)]);
     }
+    put_places(into, document, link, to)
+}
+
+/// Writes which number of a link to a process is outside its limits, or which label isn't where it must be.
+fn put_places(
+    into: &mut Vec<u8>,
+    document: &Document<'_>,
+    link: &Value,
+    to: &str,
+) -> Result<(), NoMemory>
+    requires { to.now ≡ text_at (codes "to") (view link.now) }
+    ensures { OnOk result (into.new.items ≡ into.old.items ++
+        number_fault link_limits (places_told (program_of (view document.now.top.now) to.now) (view document.now.top.now) (view link.now)) (view link.now)) }
+{
+    let program = program_of(document, to);
+    if base_of(link, program).is_none() {
+        put_no_line(into, document, link, "base", to)
+    } else if len_of(link, program).is_some() {
+        put_area(into, document, link, to)
+    } else if label_address(program, text_at(link, "len")).is_some() {
+        put_before(into, link)
+    } else {
+        put_no_line(into, document, link, "len", to)
+    }
+}
+
+/// The name of the image of the process with a name.
+#[tactic(auto, unfolding(crate::specs::Told::image_name_of))]
+fn image_name_of<'d>(document: &Document<'d>, name: &str) -> &'d str
+    ensures { result.now ≡ image_name_of (view document.now.top.now) name.now }
+{
+    match document.process(name) {
+        Some(process) => text_at(process, "image"),
+        None => "",
+    }
+}
+
+/// Writes which number of a link is outside its limits, or that no line has the label at a key.
+fn put_no_line<'d>(
+    into: &mut Vec<u8>,
+    document: &Document<'d>,
+    link: &'d Value,
+    key: &'static str,
+    to: &str,
+) -> Result<(), NoMemory>
+    requires { to.now ≡ text_at (codes "to") (view link.now) }
+    ensures { OnOk result (into.new.items ≡ into.old.items ++ number_fault link_limits (no_line_told key.now (view document.now.top.now) (view link.now)) (view link.now)) }
+{
+    put_number_fault(
+        into,
+        link,
+        &link_ranges(),
+        &[
+            Part::Text(key),
+            Part::Text(" = "),
+            Part::Quoted(text_at(link, key)),
+            Part::Text(", and no line of image "),
+            Part::Quoted(image_name_of(document, to)),
+            Part::Text(" has this label"),
+        ],
+    )
+}
+
+/// Writes which number of a link is outside its limits, or that the label where its area is to end stands before the base.
+fn put_before(into: &mut Vec<u8>, link: &Value) -> Result<(), NoMemory>
+    ensures { OnOk result (into.new.items ≡ into.old.items ++ number_fault link_limits (concat (codes "len = " ∷ quoted (text_at (codes "len") (view link.now)) ∷ codes ", and this label stands before base" ∷ [])) (view link.now)) }
+{
+    put_number_fault(
+        into,
+        link,
+        &link_ranges(),
+        &[
+            Part::Text("len = "),
+            Part::Quoted(text_at(link, "len")),
+            Part::Text(", and this label stands before base"),
+        ],
+    )
+}
+
+/// Writes which number of a link is outside its limits, or that its area isn't within the memory.
+fn put_area(
+    into: &mut Vec<u8>,
+    document: &Document<'_>,
+    link: &Value,
+    to: &str,
+) -> Result<(), NoMemory>
+    requires { to.now ≡ text_at (codes "to") (view link.now) }
+    ensures { OnOk result (into.new.items ≡ into.old.items ++ number_fault link_limits (area_told (view document.now.top.now) (view link.now)) (view link.now)) }
+{
     let size = memory_of(document, to);
     put_number_fault(
         into,

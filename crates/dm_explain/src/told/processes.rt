@@ -16,7 +16,6 @@ use crate::told::elements::{element, put_name, put_numbered, put_titled};
 use crate::told::keys::put_count;
 use crate::told::links::{LinkRule, bad_link, put_bad_link, put_link_at};
 use crate::wanted::process_keys;
-use dm_boot::BootRule;
 use dm_boot::document::Document;
 use dm_boot::limits::{format_of, machine_number};
 use dm_boot::names::{is_name, is_server};
@@ -24,31 +23,44 @@ use dm_boot::tables::{items_at, text_at};
 use dm_memory::NoMemory;
 use toml::Value;
 
+/// A rule of processes.
+#[derive(Clone, Copy)]
+pub enum ProcessRule {
+    Keys,
+    Name,
+    Machine,
+    Image,
+    Room,
+    LinkCount,
+    LinkTarget,
+    LinkLimits,
+}
+
 /// Writes what is wrong with a process.
 #[tactic(auto, using(crate::proofs::Pieces::join_lemmas, dm_boot::proofs::Elements::count_lemmas))]
 pub(super) fn put_process(
     into: &mut Vec<u8>,
     document: &Document<'_>,
-    rule: BootRule,
+    rule: ProcessRule,
     place: u64,
     process: &Value,
 ) -> Result<(), NoMemory>
     ensures { OnOk result (into.new.items ≡ into.old.items ++ process_rule_told rule (view document.now.top.now) place (view process.now)) }
 {
     match rule {
-        BootRule::ProcessKeys => {
+        ProcessRule::Keys => {
             put_numbered(into, "process", place)?;
             put_process_keys(into, document, process)
         }
-        BootRule::ProcessName => {
+        ProcessRule::Name => {
             put_numbered(into, "process", place)?;
             put_name(into, process, process_name_words(text_at(process, "name")))
         }
-        BootRule::ProcessMachine => {
+        ProcessRule::Machine => {
             put_titled(into, "process", process)?;
             put_home(into, document.top, process)
         }
-        BootRule::ProcessImage => {
+        ProcessRule::Image => {
             put_titled(into, "process", process)?;
             put_parts(
                 into,
@@ -58,24 +70,23 @@ pub(super) fn put_process(
                 ],
             )
         }
-        BootRule::ProcessRoom => {
+        ProcessRule::Room => {
             put_titled(into, "process", process)?;
             put_no_room(into, document.top, process)
         }
-        BootRule::LinkCount => {
+        ProcessRule::LinkCount => {
             put_titled(into, "process", process)?;
             let most = u64::from(format_of(document.top).slots());
             put_count(into, items_at(process, "links").len(), "links", 0, most)
         }
-        BootRule::LinkTarget => {
+        ProcessRule::LinkTarget => {
             put_titled(into, "process", process)?;
             put_bad_link(into, document, LinkRule::Target, process)
         }
-        BootRule::LinkLimits => {
+        ProcessRule::LinkLimits => {
             put_titled(into, "process", process)?;
             put_bad_link(into, document, LinkRule::Limits, process)
         }
-        _ => Ok(()),
     }
 }
 
@@ -108,7 +119,7 @@ fn put_process_keys(
             process,
             &process_keys(),
             &["name", "image", "machine", "links"],
-            "",
+            &[],
         ),
     }
 }

@@ -1,16 +1,18 @@
 //! What is said of the lines of an image's text that are refused.
-ghost use Rattle.std.specs.Prelude.{◌≡◌, ◌++◌, ◌<◌, ◌^◌, IfSome, OnOk, codes};
+ghost use Rattle.std.specs.Prelude.{◌≡◌, ◌++◌, ◌∷◌, ◌<◌, ◌^◌, [], IfSome, OnOk, codes, option_and_then, option_copied};
+ghost use Rattle.std.specs.Fmt.{decimal};
+ghost use Rattle.std.specs.List.{concat};
 ghost use Rattle.toml.specs.View.{view};
 ghost use Rattle.dm_reading.specs.Lines.{source_lines};
 ghost use Rattle.dm_asm.specs.Assembled.{assembled, places_of};
 ghost use Rattle.dm_boot.specs.Tables.{text_at};
-ghost use Rattle.dm_explain.specs.BadSources.{source_of};
+ghost use Rattle.dm_explain.specs.BadSources.{last_of, source_of};
 ghost use Rattle.dm_explain.specs.TextFaults.{place_in};
 ghost use Rattle.dm_explain.specs.TextPlace.{line_before};
-ghost use Rattle.dm_explain.specs.Told.{again_told, fault_told, later_lines, line_told, note_told, number_note, place_told, program_told, refusal_told, rule_title};
+ghost use Rattle.dm_explain.specs.Told.{again_told, image_line_told, label_note, later_lines, line_fault_told, literal_note, note_told, place_told, program_told, refusal_told, rule_title, whole_program_told};
 
 use crate::part::{Part, put, put_parts};
-use crate::program::{Labels, line_before, line_counted, line_why};
+use crate::program::{Labels, defined_by, line_before, line_counted, line_why};
 use crate::source::{Last, statement_of};
 use crate::told::refused::put_refused;
 use dm_asm::{AssembleError, Why, assemble};
@@ -44,7 +46,7 @@ pub(super) fn put_line(
     why: Why,
     line: &[u8],
 ) -> Result<(), NoMemory>
-    ensures { OnOk result (into.new.items ≡ into.old.items ++ line_told (view image.now) number why line.now) }
+    ensures { OnOk result (into.new.items ≡ into.old.items ++ image_line_told (view image.now) number why line.now) }
 {
     put_parts(
         into,
@@ -79,7 +81,26 @@ pub(super) fn put_program(
     }
 }
 
-/// Writes each line of a text that is refused, but for the first, which was said before, and what more there is to say of each.
+/// Writes each line of the text of an image that is refused, whose text stands in a file, and what more there is to say of each.
+pub(super) fn put_whole_program(
+    alloc: Global,
+    into: &mut Vec<u8>,
+    file: &[u8],
+    image: &Value,
+) -> Result<(), NoMemory>
+    ensures { OnOk result (into.new.items ≡ into.old.items ++ whole_program_told file.now (view image.now) (text_at (codes "text") (view image.now))) }
+{
+    put_behind(
+        alloc,
+        into,
+        file,
+        image,
+        text_at(image, "text").as_bytes(),
+        0,
+    )
+}
+
+/// Writes each line of a text that is refused behind a line, which was said before, and what more there is to say of each of these.
 fn put_behind(
     alloc: Global,
     into: &mut Vec<u8>,
@@ -95,33 +116,72 @@ fn put_behind(
     put_later(into, image, line_before(file, text), &labels, text, first)
 }
 
-/// Writes what a number is, behind a line in which none stands where one must.
-fn put_note(into: &mut Vec<u8>, why: Why, line: &[u8]) -> Result<(), NoMemory>
-    ensures { OnOk result (into.new.items ≡ into.old.items ++ note_told why (source_of line.now)) }
+/// Writes what more there is to say of why a line is refused.
+fn put_note(into: &mut Vec<u8>, labels: &Labels, why: Why, line: &[u8]) -> Result<(), NoMemory>
+    ensures { OnOk result (into.new.items ≡ into.old.items ++ note_told (place_in labels.now) why line.now) }
 {
     match why {
-        Why::BadNumber => put(into, number_note_of(line)),
-        _ => Ok(()),
+        Why::BadNumber => put(into, literal_note_of(line)),
+        Why::LabelTwice => put_label_note(into, labels, defined_by(line)),
+        Why::UnknownWord
+        | Why::BadRegister
+        | Why::OutOfRange
+        | Why::UnknownLabel
+        | Why::OperandCount
+        | Why::TooLong => Ok(()),
     }
 }
 
-/// What a number is, where one must stand in a line.
-fn number_note_of(line: &[u8]) -> &'static str
-    ensures { result.now ≡ note_told Why.BadNumber (source_of line.now) }
+/// What a number or a text is, where one must stand in a line.
+fn literal_note_of(line: &[u8]) -> &'static str
+    ensures { result.now ≡ literal_note (last_of (source_of line.now)) }
 {
     match statement_of(line) {
-        Some(statement) => number_note(statement.takes.last),
+        Some(statement) => literal_note(statement.takes.last),
         None => "",
     }
 }
 
-/// What a number is, where one must stand.
-fn number_note(last: Last) -> &'static str
-    ensures { result.now ≡ number_note last }
+/// Writes on which line a label stands first, where there is one.
+fn put_label_note(into: &mut Vec<u8>, labels: &Labels, label: Option<&[u8]>) -> Result<(), NoMemory>
+    ensures { OnOk result (into.new.items ≡ into.old.items ++ label_note (option_and_then (place_in labels.now) (option_copied label.entry))) }
+{
+    match label {
+        None => Ok(()),
+        Some(name) => match labels.spot(name) {
+            None => Ok(()),
+            Some(spot) => put_first_line(into, spot.line),
+        },
+    }
+}
+
+/// Writes that a label stands on a line already.
+fn put_first_line(into: &mut Vec<u8>, line: usize) -> Result<(), NoMemory>
+    ensures { OnOk result (into.new.items ≡ into.old.items ++ concat (codes "    the label stands on line " ∷ decimal line ∷ codes " already\n" ∷ [])) }
+{
+    put_parts(
+        into,
+        &[
+            Part::Text("    the label stands on line "),
+            Part::Count(line as u64),
+            Part::Text(" already\n"),
+        ],
+    )
+}
+
+/// What a number or a text is, where one must stand.
+fn literal_note(last: Last) -> &'static str
+    ensures { result.now ≡ literal_note last }
 {
     match last {
-        Last::Number(_) | Last::Value(_) | Last::Bytes => {
+        Last::Number(_) | Last::Value(_) | Last::Multiple | Last::Bytes => {
             "    a number has digits alone, or 0x and hexadecimal digits\n"
+        }
+        Last::Text => {
+            "    a text has printed bytes alone, without quotation marks and semicolons, and nothing stands behind it\n"
+        }
+        Last::Call => {
+            "    a number has digits alone, or 0x and hexadecimal digits; a call is EXIT OUT MAKE COPY DROP SEND RECEIVE or MOVE\n"
         }
         Last::Label | Last::Nothing => "",
     }
@@ -146,9 +206,9 @@ fn put_later(
     while !rest.is_empty() {
         let (line, others) = first_source_line(rest);
         let why = line_why(labels, number, at, line);
-        put_fault(into, image, before, first, number, line, why)?;
+        put_fault(into, image, before, first, labels, number, line, why)?;
         number += 1;
-        at += line_counted(line) as u128;
+        at += line_counted(at, line) as u128;
         rest = others;
     }
     Ok(())
@@ -160,17 +220,18 @@ fn put_fault(
     image: &Value,
     before: Option<usize>,
     first: usize,
+    labels: &Labels,
     number: usize,
     line: &[u8],
     why: Option<Why>,
 ) -> Result<(), NoMemory>
     requires few { IfSome before (λ n. n < 2 ^ 63) }
     requires small { number < 2 ^ 63 }
-    ensures { OnOk result (into.new.items ≡ into.old.items ++ fault_told (view image.now) before first number line.now why) }
+    ensures { OnOk result (into.new.items ≡ into.old.items ++ line_fault_told (view image.now) before first (place_in labels.now) number line.now why) }
 {
     match why {
         None => Ok(()),
-        Some(why) => put_refusal(into, image, before, first, number, why, line),
+        Some(why) => put_refusal(into, image, before, first, labels, number, why, line),
     }
 }
 
@@ -181,16 +242,17 @@ fn put_refusal(
     image: &Value,
     before: Option<usize>,
     first: usize,
+    labels: &Labels,
     number: usize,
     why: Why,
     line: &[u8],
 ) -> Result<(), NoMemory>
     requires few { IfSome before (λ n. n < 2 ^ 63) }
     requires small { number < 2 ^ 63 }
-    ensures { OnOk result (into.new.items ≡ into.old.items ++ refusal_told (view image.now) before first number why line.now) }
+    ensures { OnOk result (into.new.items ≡ into.old.items ++ refusal_told (view image.now) before first (place_in labels.now) number why line.now) }
 {
     put_again(into, image, first, number, why, line)?;
-    put_note(into, why, line)?;
+    put_note(into, labels, why, line)?;
     put_place(into, before, number)
 }
 

@@ -1,13 +1,15 @@
 //! What is said of a line of an image's text that is refused.
 ghost use Rattle.std.specs.Prelude.{◌≡◌, ◌++◌, OnOk, option_copied, option_map};
-ghost use Rattle.dm_explain.specs.BadSources.{bad_word_of, bad_word_told, bytes_due, detail, detail_told, due_told, known_told, label_told, last_of, last_range, missing_value_words, most_told, refused_told, seen, source_of, unknown_told, which_told, why_words};
+ghost use Rattle.dm_reading.specs.Words.{source_words};
+ghost use Rattle.dm_explain.specs.BadSources.{bad_word_of, bad_word_told, bytes_due, detail, detail_told, due_told, known_told, label_or_word_told, last_of, last_range, missing_value_words, most_told, no_label_told, no_word_told, refused_told, seen, source_of, unknown_told, which_told, why_words};
 
 use crate::part::{Part, put, put_parts};
+use crate::program::split_label;
 use crate::schedule::{put_counts, put_said};
-use crate::source::{Last, Statement, Takes, Wrong, bad_word, no_label, statement_of};
+use crate::source::{Last, Statement, Takes, Wrong, bad_word, no_label, statement_of, uncommented};
 use dm_asm::Why;
 use dm_memory::NoMemory;
-use dm_reading::{Gap, count_words};
+use dm_reading::{Gap, count_words, next_word};
 
 /// Writes why a line is refused, the line, and what is wrong there.
 pub(super) fn put_refused(into: &mut Vec<u8>, why: Why, line: &[u8]) -> Result<(), NoMemory>
@@ -24,22 +26,50 @@ fn put_unknown(into: &mut Vec<u8>, line: &[u8]) -> Result<(), NoMemory>
     ensures { OnOk result (into.new.items ≡ into.old.items ++ unknown_told line.now) }
 {
     put_said(into, "no such word", line)?;
-    put_no_label(into, no_label(line))
+    put_which_word(into, uncommented(line), no_label(line))
 }
 
-/// Writes that a word is no label, where it ends as one does.
-fn put_no_label(into: &mut Vec<u8>, word: Option<&[u8]>) -> Result<(), NoMemory>
-    ensures { OnOk result (into.new.items ≡ into.old.items ++ label_told (option_copied word.entry)) }
+/// Writes which word of a line without its comment is none: one that ends as a label does, where it is given, or what stands where
+/// an instruction or directive must.
+fn put_which_word(into: &mut Vec<u8>, words: &[u8], no_label: Option<&[u8]>) -> Result<(), NoMemory>
+    ensures { OnOk result (into.new.items ≡ into.old.items ++ label_or_word_told (option_copied no_label.entry) (source_words words.now)) }
 {
-    match word {
-        Some(word) => put_parts(
+    match no_label {
+        Some(word) => put_no_label(into, word),
+        None => {
+            let (_, statement) = split_label(words);
+            put_no_word(into, statement)
+        }
+    }
+}
+
+/// Writes that a word which ends as a label does is none.
+fn put_no_label(into: &mut Vec<u8>, word: &[u8]) -> Result<(), NoMemory>
+    ensures { OnOk result (into.new.items ≡ into.old.items ++ no_label_told word.now) }
+{
+    put_parts(
+        into,
+        &[
+            Part::Text(": "),
+            Part::Line(word),
+            Part::Text(
+                " is no label, which has 1 to 16 of a to z, 0 to 9 and _, the first no digit",
+            ),
+        ],
+    )
+}
+
+/// Writes that the first of some words is no instruction and no directive.
+fn put_no_word(into: &mut Vec<u8>, words: &[u8]) -> Result<(), NoMemory>
+    ensures { OnOk result (into.new.items ≡ into.old.items ++ no_word_told (source_words words.now)) }
+{
+    match next_word(words, Gap::Separators) {
+        Some((word, _)) => put_parts(
             into,
             &[
                 Part::Text(": "),
                 Part::Line(word),
-                Part::Text(
-                    " is no label, which has 1 to 16 of a to z, 0 to 9 and _, the first no digit",
-                ),
+                Part::Text(" is no instruction and no directive"),
             ],
         ),
         None => Ok(()),
@@ -88,7 +118,9 @@ fn missing_words(last: Last) -> &'static str
 {
     match last {
         Last::Label => "a label must stand where none stands",
-        Last::Number(_) | Last::Bytes => "a number must stand where none stands",
+        Last::Call => "a number or call must stand where none stands",
+        Last::Text => "a text in quotation marks must stand where none stands",
+        Last::Number(_) | Last::Multiple | Last::Bytes => "a number must stand where none stands",
         Last::Value(_) | Last::Nothing => "a number or label must stand where none stands",
     }
 }
@@ -168,9 +200,10 @@ fn put_range(into: &mut Vec<u8>, last: Last) -> Result<(), NoMemory>
     ensures { OnOk result (into.new.items ≡ into.old.items ++ last_range last) }
 {
     match last {
-        Last::Nothing => Ok(()),
+        Last::Nothing | Last::Text => Ok(()),
+        Last::Multiple => put(into, ", must be 1 to 65536"),
         Last::Number(most) | Last::Value(most) => put_most(into, u64::from(most)),
-        Last::Bytes => put(into, ", must be 0 to 255"),
+        Last::Bytes | Last::Call => put(into, ", must be 0 to 255"),
         Last::Label => put(
             into,
             ", must be -128 to 127 whole words from the next instruction",
@@ -201,7 +234,8 @@ fn put_due(into: &mut Vec<u8>, takes: Takes, there: u64) -> Result<(), NoMemory>
     match takes.last {
         Last::Nothing => put_counts(into, registers, there),
         Last::Bytes => put_no_byte(into, there),
-        Last::Number(_) | Last::Value(_) | Last::Label => put_counts(into, registers + 1, there),
+        Last::Number(_) | Last::Value(_) | Last::Label | Last::Call | Last::Multiple | Last::Text =>
+            put_counts(into, registers + 1, there),
     }
 }
 
