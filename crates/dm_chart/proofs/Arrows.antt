@@ -18,9 +18,9 @@ unfolding columns
 none-columns zero = refl
 none-columns (suc n) = none-both (columns n) _ (none-columns n) refl
 
-none-bars : (last : ℕ) (all : List Line) (ps : List Pid) → arrows (map (first_bar last all) ps) ≡ []
-none-bars last all [] = refl
-none-bars last all (p ∷ ps) = none-bars last all ps
+none-bars : (last hidden : ℕ) (all : List Line) (ps : List Pid) → arrows (map (first_bar last hidden all) ps) ≡ []
+none-bars last hidden all [] = refl
+none-bars last hidden all (p ∷ ps) = none-bars last hidden all ps
 
 none-group : (b : Bool) (a s : Spot) → arrows (if b then Group s.row (s.groups - 1) s.step ∷ [] else []) ≡ []
 none-group true a s = refl
@@ -101,8 +101,8 @@ of-lines last all before s (l ∷ ls) =
     ∙ ap (λ x. x ++ arrows (shapes_from last all (before ++ l ∷ []) (next_spot s l) ls)) (of-line last all before s l ls)
     ∙ ap (λ x. letter_of_role (role_of l) ++ x) (of-lines last all (before ++ l ∷ []) (next_spot s l) ls)
 
-pub of-shapes : (machines last : ℕ) (ps : List Pid) (ls : List Line) → arrows (shapes machines last ps ls) ≡ letters_of ls
-of-shapes machines last ps ls =
-    flat_map-append letter_of_shape (columns machines ++ map (first_bar last ls) ps) (shapes_from last ls [] first_spot ls)
-    ∙ ap (λ x. x ++ arrows (shapes_from last ls [] first_spot ls)) (none-both (columns machines) (map (first_bar last ls) ps) (none-columns machines) (none-bars last ls ps))
-    ∙ of-lines last ls [] first_spot ls
+pub of-shapes : (machines last hidden : ℕ) (ps : List Pid) (ls : List Line) → arrows (shapes machines last hidden ps ls) ≡ letters_of ls
+of-shapes machines last hidden ps ls =
+    flat_map-append letter_of_shape (columns machines ++ map (first_bar last hidden ls) ps) (shapes_from last ls [] (first_spot hidden) ls)
+    ∙ ap (λ x. x ++ arrows (shapes_from last ls [] (first_spot hidden) ls)) (none-both (columns machines) (map (first_bar last hidden ls) ps) (none-columns machines) (none-bars last hidden ls ps))
+    ∙ of-lines last ls [] (first_spot hidden) ls

@@ -24,7 +24,7 @@ unfoldable pub use Rattle.dm_chart.specs.Picture.{foot}
 pub use Rattle.dm_chart.specs.Roles.{role_of}
 pub use Rattle.dm_chart.specs.Shapes.{Column, Group, Shape, fate, fate_here, first_bar, group_shapes, life_shapes, line_shapes, lost_unless, moves_shown, own_shapes, sending_shapes, shapes, wait_if}
 unfoldable pub use Rattle.dm_chart.specs.Shapes.{columns, deliveries, shapes_from}
-pub use Rattle.dm_chart.specs.Spots.{first_spot, next_spot, spot_behind}
+pub use Rattle.dm_chart.specs.Spots.{first_spot, next_spot, shown_spot, spot_behind}
 pub use Rattle.dm_chart.specs.Written.{seen}
 pub use Rattle.dm_chart.specs.Xml.{attribute}
 pub use Rattle.dm_chart.specs.declared.frame.Frame.{Frame}

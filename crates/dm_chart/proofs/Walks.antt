@@ -1,7 +1,7 @@
 -- Walks over lines, as loops go through them.
 use Rattle.dm_chart.proofs.Names.{◌≡◌, ℕ, ◌+◌, ◌<◌, ◌≤◌, Bool, true, false, List, [], ◌∷◌, ◌++◌, length, get_or, take, drop, map, Some, None, refl, ap, sym, ◌∙◌, add-one, append_assoc, flat_map-append, append-nil}
 use Rattle.dm_chart.proofs.Names.{drop_more, flat_map_more, take_more, drop_of_length-le, Pid, Line, Frame, Role, Spot, first_ahead, is_delivery, all_drawn, drawn_shape, role_of, Shape, Column, columns, deliveries, fate_here}
-use Rattle.dm_chart.proofs.Names.{line_shapes, shapes_from, next_spot, spot_behind, Option, MsgId, Letter, letter_last, news_from, news_here, puts_it, waits_behind, waits_on}
+use Rattle.dm_chart.proofs.Names.{line_shapes, shapes_from, next_spot, shown_spot, spot_behind, Option, MsgId, Letter, letter_last, news_from, news_here, puts_it, waits_behind, waits_on}
 use Rattle.dm_chart.proofs.Pieces.{read_at}
 
 -- the first line ahead that passes a test
@@ -38,7 +38,7 @@ news-here id last ls i d within passes = rw (drop_more ls i d within, passes) re
 pub spot_behind-end : (s : Spot) (ls : List Line) (i : ℕ) → length ls ≤ i → spot_behind s (drop i ls) ≡ s
 spot_behind-end s ls i past = ap (spot_behind s) (drop_of_length-le ls past)
 
-pub spot_behind-more : (s : Spot) (ls : List Line) (i : ℕ) (l : Line) → i < length ls → l ≡ get_or ls i l → spot_behind s (drop i ls) ≡ spot_behind (next_spot s l) (drop (i + 1) ls)
+pub spot_behind-more : (s : Spot) (ls : List Line) (i : ℕ) (l : Line) → i < length ls → l ≡ get_or ls i l → spot_behind s (drop i ls) ≡ spot_behind (shown_spot s l) (drop (i + 1) ls)
 spot_behind-more s ls i l within read = ap (spot_behind s) (read_at ls i l within read)
 
 pub ruleset behind_lemmas = (spot_behind-end, spot_behind-more)

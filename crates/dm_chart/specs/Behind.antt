@@ -24,7 +24,13 @@ message_is_among i ids = list_any (λ j. id_eq j i) ids
 -- a put of this message
 abbrev pub puts_it : MsgId → Role → Bool
 puts_it i (role.Put x) = id_eq x.id i
-puts_it i _ = false
+puts_it i (role.Head e) = false
+puts_it i (role.Packet a b k n) = false
+puts_it i (role.Taken a b n) = false
+puts_it i (role.Early a b n) = false
+puts_it i (role.Again a b n) = false
+puts_it i (role.Note l) = false
+puts_it i role.Unseen = false
 
 abbrev pub puts_id : MsgId → Line → Bool
 puts_id i l = puts_it i (role_of l)
@@ -36,7 +42,13 @@ was_put i ls = list_any (puts_id i) ls
 -- a put from one machine to another
 abbrev pub puts_there : ℕ → ℕ → Role → Bool
 puts_there a b (role.Put x) = (x.from == a) && (x.to == b)
-puts_there a b _ = false
+puts_there a b (role.Head e) = false
+puts_there a b (role.Packet c d k n) = false
+puts_there a b (role.Taken c d n) = false
+puts_there a b (role.Early c d n) = false
+puts_there a b (role.Again c d n) = false
+puts_there a b (role.Note l) = false
+puts_there a b role.Unseen = false
 
 abbrev pub puts_between : ℕ → ℕ → Line → Bool
 puts_between a b l = puts_there a b (role_of l)
@@ -52,7 +64,13 @@ kill_with p i _ q = []
 
 abbrev pub kill_in : Pid → Role → List MsgId
 kill_in p (role.Put x) = kill_with p x.id x.kind x.receiver
-kill_in p _ = []
+kill_in p (role.Head e) = []
+kill_in p (role.Packet a b k n) = []
+kill_in p (role.Taken a b n) = []
+kill_in p (role.Early a b n) = []
+kill_in p (role.Again a b n) = []
+kill_in p (role.Note l) = []
+kill_in p role.Unseen = []
 
 -- the messages of these lines that kill it
 abbrev pub kills_of : Pid → List Line → List MsgId
@@ -62,11 +80,22 @@ kills_of p ls = flat_map (λ l. kill_in p (role_of l)) ls
 abbrev pub waits_with : Pid → Bool → Life → Bool
 waits_with p waits (life.Waits q) = if pid_eq q p then true else waits
 waits_with p waits (life.Wakes q) = if pid_eq q p then false else waits
-waits_with p waits _ = waits
+waits_with p waits life.Same = waits
+waits_with p waits (life.Made q) = waits
+waits_with p waits (life.From q) = waits
+waits_with p waits (life.Ends q) = waits
+waits_with p waits (life.Leaves q) = waits
+waits_with p waits (life.Served i) = waits
 
 abbrev pub waits_on : Pid → Bool → Role → Bool
 waits_on p waits (role.Note l) = waits_with p waits l
-waits_on p waits _ = waits
+waits_on p waits (role.Head e) = waits
+waits_on p waits (role.Put x) = waits
+waits_on p waits (role.Packet a b k n) = waits
+waits_on p waits (role.Taken a b n) = waits
+waits_on p waits (role.Early a b n) = waits
+waits_on p waits (role.Again a b n) = waits
+waits_on p waits role.Unseen = waits
 
 abbrev pub waits_behind : Pid → Bool → List Line → Bool
 waits_behind p waits [] = waits
@@ -75,7 +104,13 @@ waits_behind p waits (l ∷ ls) = waits_behind p (waits_on p waits (role_of l)) 
 -- the last message that was put, with one more line
 abbrev pub letter_last : Option Letter → Role → Option Letter
 letter_last last (role.Put x) = Some x
-letter_last last _ = last
+letter_last last (role.Head e) = last
+letter_last last (role.Packet a b k n) = last
+letter_last last (role.Taken a b n) = last
+letter_last last (role.Early a b n) = last
+letter_last last (role.Again a b n) = last
+letter_last last (role.Note l) = last
+letter_last last role.Unseen = last
 
 -- of a message that tells where a process is: whom it tells, and by the message put before it, which is the one that was forwarded,
 -- of which process, and to which machine that has gone
@@ -85,7 +120,13 @@ news_behind x (Some y) = Some (record { whom = x.receiver; of = y.receiver; at =
 
 abbrev pub news_here : Role → Option Letter → Option News
 news_here (role.Put x) last = news_behind x last
-news_here _ last = None
+news_here (role.Head e) last = None
+news_here (role.Packet a b k n) last = None
+news_here (role.Taken a b n) last = None
+news_here (role.Early a b n) last = None
+news_here (role.Again a b n) last = None
+news_here (role.Note l) last = None
+news_here role.Unseen last = None
 
 -- where these lines put it first, behind what was put last
 unfoldable pub news_from : MsgId → Option Letter → List Line → Option News

@@ -126,8 +126,20 @@ unfoldable pub draw_beside : Frame → ℕ → ℕ → List ℕ → List (List �
 draw_beside f m row class words =
     by_layer f.layer [] [] (drawn_mark (codes "#note") (on_axis f m row) ++ written class (point words_at (height row - 3)) words)
 
+abbrev pub draw_shown_arrow : Frame → Style → Letter → ℕ → Option ℕ → List ℕ
+draw_shown_arrow f s x row last = by_layer f.layer [] (draw_way f s x.from x.to row last) [] ++ draw_beside f x.from row (label_class s) (letter_words x)
+
+-- a message that is put before the first row is told of where it enters an inbox
+abbrev pub draw_arriving : Frame → Style → Letter → ℕ → List ℕ
+draw_arriving f s x last =
+    if last == 0 then [] else by_layer f.layer [] (draw_way f s x.from x.to 0 (Some last)) [] ++ draw_beside f x.to last (label_class s) (letter_words x)
+
+abbrev pub draw_hidden_arrow : Frame → Style → Letter → Option ℕ → List ℕ
+draw_hidden_arrow f s x None = []
+draw_hidden_arrow f s x (Some last) = draw_arriving f s x last
+
 abbrev pub draw_arrow : Frame → Style → Letter → ℕ → Option ℕ → List ℕ
-draw_arrow f s x row last = by_layer f.layer [] (draw_way f s x.from x.to row last) [] ++ draw_beside f x.from row (label_class s) (letter_words x)
+draw_arrow f s x row last = if row == 0 then draw_hidden_arrow f s x last else draw_shown_arrow f s x row last
 
 abbrev pub draw_packet : Frame → ℕ → ℕ → ℕ → ℕ → List ℕ
 draw_packet f a b row last = by_layer f.layer [] (stroke (codes "p") (on_axis f a row) (on_axis f b last)) []
@@ -147,19 +159,23 @@ draw_words f m row class (w ∷ ws) = draw_beside f m row class (w ∷ ws)
 abbrev pub draw_note : Frame → ℕ → ℕ → Note → List ℕ
 draw_note f m row n = draw_words f m row n.class n.words
 
+-- what ends at row 0 is over before the first row
+abbrev pub unless_over : ℕ → List ℕ → List ℕ
+unless_over last drawn = if last == 0 then [] else drawn
+
 -- a shape, a row a shape
 abbrev pub drawn_shape : Frame → Shape → List ℕ
 drawn_shape f (Column m) = draw_column f m
-drawn_shape f (Bar p m row last) = draw_bar f p m row last (lane_of f p)
-drawn_shape f (Waits p m row last) = draw_waits f m row last (lane_of f p)
-drawn_shape f (Moves p a row b last) = draw_moves f a row b last (lane_of f p)
+drawn_shape f (Bar p m row last) = unless_over last (draw_bar f p m row last (lane_of f p))
+drawn_shape f (Waits p m row last) = unless_over last (draw_waits f m row last (lane_of f p))
+drawn_shape f (Moves p a row b last) = unless_over last (draw_moves f a row b last (lane_of f p))
 drawn_shape f (Group row group e) = draw_group f row group e
 drawn_shape f (Arrow s x row last) = draw_arrow f s x row last
-drawn_shape f (Came a b row last) = draw_packet f a b row last
-drawn_shape f (Early a b row last) = draw_marked f (codes "#early") a b row last
-drawn_shape f (Again a b row last) = draw_marked f (codes "#again") a b row last
-drawn_shape f (Lost a b row) = draw_lost f a b row
-drawn_shape f (Beside m row before l) = draw_note f m row (note_of before l)
+drawn_shape f (Came a b row last) = unless_over last (draw_packet f a b row last)
+drawn_shape f (Early a b row last) = unless_over last (draw_marked f (codes "#early") a b row last)
+drawn_shape f (Again a b row last) = unless_over last (draw_marked f (codes "#again") a b row last)
+drawn_shape f (Lost a b row) = unless_over row (draw_lost f a b row)
+drawn_shape f (Beside m row before l) = unless_over row (draw_note f m row (note_of before l))
 
 -- shapes, one after another
 abbrev pub all_drawn : Frame → List Shape → List ℕ

@@ -1,5 +1,5 @@
 -- The whole picture.
-use Rattle.std.specs.Prelude.{ℕ, ◌+◌, ◌-◌, ◌==◌, if◌then◌else◌, codes, List, [], ◌∷◌, ◌++◌, map, length}
+use Rattle.std.specs.Prelude.{ℕ, ◌+◌, ◌-◌, ◌==◌, nat_le, if◌then◌else◌, codes, List, [], ◌∷◌, ◌++◌, map, length}
 use Rattle.std.specs.List.{concat, flat_map}
 use Rattle.std.specs.Fmt.{decimal}
 use Rattle.dm_link.specs.declared.Pid.{Pid}
@@ -10,6 +10,7 @@ use Rattle.dm_chart.specs.declared.chart.Reach.TheVariants as reach
 use Rattle.dm_chart.specs.declared.frame.Frame.{Frame}
 use Rattle.dm_chart.specs.declared.frame.Layer.TheVariants as layer
 use Rattle.dm_chart.specs.declared.kept.Kept.{Kept}
+use Rattle.dm_chart.specs.declared.kept.Part.{Part}
 use Rattle.dm_chart.specs.declared.role.Life.{Life}
 use Rattle.dm_chart.specs.declared.role.Life.TheVariants as life
 use Rattle.dm_chart.specs.declared.role.Role.{Role}
@@ -26,11 +27,23 @@ use Rattle.dm_chart.specs.Xml.{alone, opening_tag, closing}
 -- a process that is made
 abbrev pub made_with : Life → List Pid
 made_with (life.Made p) = p ∷ []
-made_with _ = []
+made_with life.Same = []
+made_with (life.From p) = []
+made_with (life.Ends p) = []
+made_with (life.Leaves p) = []
+made_with (life.Served i) = []
+made_with (life.Waits p) = []
+made_with (life.Wakes p) = []
 
 abbrev pub made_in : Role → List Pid
 made_in (role.Note l) = made_with l
-made_in _ = []
+made_in (role.Head e) = []
+made_in (role.Put x) = []
+made_in (role.Packet a b k n) = []
+made_in (role.Taken a b n) = []
+made_in (role.Early a b n) = []
+made_in (role.Again a b n) = []
+made_in role.Unseen = []
 
 -- those that are there from the start, and then those that are made
 abbrev pub processes_in : List Pid → List Line → List Pid
@@ -38,7 +51,7 @@ processes_in ps ls = ps ++ flat_map (λ l. made_in (role_of l)) ls
 
 -- below the last row there is one of which nothing is said, into which all goes that goes on
 abbrev pub frame_of : ℕ → List Pid → Kept → Frame
-frame_of machines ps k = record { machines = machines; processes = processes_in ps k.lines; numbers = k.numbers; rows = one_row_more k.rows; layer = layer.Grounds }
+frame_of machines ps k = record { machines = machines; processes = processes_in ps k.lines; numbers = k.numbers; rows = one_row_more k.rows; hidden = k.hidden; layer = layer.Grounds }
 
 -- the attributes of the picture
 abbrev pub extent : Frame → List (List ℕ × List ℕ)
@@ -48,8 +61,13 @@ extent f =
 unfoldable pub sheet : Frame → List ℕ
 sheet f = alone (codes "rect") ((codes "width", decimal (breadth f)) ∷ (codes "height", decimal (height f.rows + 44)) ∷ (codes "fill", codes "#fff") ∷ [])
 
+-- which group is the first to be shown, where that isn't the run's first
+abbrev pub part_words : ℕ → List (List ℕ)
+part_words first = if nat_le first 1 then [] else codes "; from group " ∷ decimal first ∷ []
+
 unfoldable pub title : ℕ → Kept → List ℕ
-title machines k = written (codes "t") (point 10 20) (codes "machines " ∷ decimal machines ∷ codes ", groups " ∷ decimal k.groups ∷ codes ", messages " ∷ decimal k.messages ∷ [])
+title machines k =
+    written (codes "t") (point 10 20) ((codes "machines " ∷ decimal machines ∷ codes ", groups " ∷ decimal k.groups ∷ codes ", messages " ∷ decimal k.messages ∷ []) ++ part_words k.part.first)
 
 -- words at the foot of the picture, so far from its left side and from its last row, and a number that isn't 0
 unfoldable pub foot_line : Frame → ℕ → ℕ → List ℕ → ℕ → List ℕ
@@ -79,9 +97,9 @@ picture_head f k = concat style_sheet ++ concat marks ++ sheet f ++ title f.mach
 -- all shapes, a layer on another
 unfoldable pub layers : Frame → List Pid → Kept → List ℕ
 layers f ps k =
-    all_drawn (record f { layer = layer.Grounds }) (shapes f.machines f.rows ps k.lines)
-    ++ all_drawn (record f { layer = layer.Ways }) (shapes f.machines f.rows ps k.lines)
-    ++ all_drawn (record f { layer = layer.Words }) (shapes f.machines f.rows ps k.lines)
+    all_drawn (record f { layer = layer.Grounds }) (shapes f.machines f.rows f.hidden ps k.lines)
+    ++ all_drawn (record f { layer = layer.Ways }) (shapes f.machines f.rows f.hidden ps k.lines)
+    ++ all_drawn (record f { layer = layer.Words }) (shapes f.machines f.rows f.hidden ps k.lines)
 
 abbrev pub picture_in : Frame → List Pid → Kept → Reach → List ℕ
 picture_in f ps k r =
@@ -98,9 +116,9 @@ picture_of machines ps k r = picture_in (frame_of machines ps k) ps k r
 abbrev pub boot_pids : Boot → List Pid
 boot_pids b = map (λ p. p.pid) b.processes
 
--- the picture of a run: of its boot file, and the lines of its groups; and of one that ended at a worn pair
-abbrev pub chart_of : Boot → List (List Line) → List ℕ
-chart_of b gs = picture_of (length b.machines) (boot_pids b) (kept_of gs) reach.Whole
+-- the picture of these groups of a run: of its boot file, and the lines of all its groups; and of one that ended at a worn pair
+abbrev pub chart_of : Part → Boot → List (List Line) → List ℕ
+chart_of part b gs = picture_of (length b.machines) (boot_pids b) (kept_of part gs) reach.Whole
 
-abbrev pub worn_chart_of : Boot → List (List Line) → ℕ → ℕ → List ℕ
-worn_chart_of b gs from to = picture_of (length b.machines) (boot_pids b) (kept_of gs) (reach.BeforeWorn from to)
+abbrev pub worn_chart_of : Part → Boot → List (List Line) → ℕ → ℕ → List ℕ
+worn_chart_of part b gs from to = picture_of (length b.machines) (boot_pids b) (kept_of part gs) (reach.BeforeWorn from to)

@@ -146,9 +146,9 @@ columns zero = []
 columns (suc n) = columns n ++ Column n ∷ []
 
 -- the processes that are there from the start
-abbrev pub first_bar : ℕ → List Line → Pid → Shape
-first_bar last all p = bar last all p p.home first_spot all
+abbrev pub first_bar : ℕ → ℕ → List Line → Pid → Shape
+first_bar last hidden all p = bar last all p p.home (first_spot hidden) all
 
--- the whole picture: `last` is its last row
-abbrev pub shapes : ℕ → ℕ → List Pid → List Line → List Shape
-shapes machines last ps all = columns machines ++ map (first_bar last all) ps ++ shapes_from last all [] first_spot all
+-- the whole picture: `last` is its last row, and so many of its lines stand before the first group that is shown
+abbrev pub shapes : ℕ → ℕ → ℕ → List Pid → List Line → List Shape
+shapes machines last hidden ps all = columns machines ++ map (first_bar last hidden all) ps ++ shapes_from last all [] (first_spot hidden) all

@@ -74,6 +74,7 @@ fn frame_of(alloc: Global, machines: u8, starts: &[Pid], kept: &Kept) -> Result<
         processes,
         numbers,
         rows: more(kept.rows),
+        hidden: kept.hidden,
         layer: Layer::Grounds,
     })
 }
@@ -236,19 +237,38 @@ fn put_sheet(into: &mut Vec<u8>, frame: &Frame) -> Result<(), NoMemory>
 fn put_title(into: &mut Vec<u8>, machines: u8, kept: &Kept) -> Result<(), NoMemory>
     ensures { OnOk result (into.new.items ≡ into.old.items ++ title machines kept.now) }
 {
-    put_written(
-        into,
-        "t",
-        Point { x: 10, y: 20 },
-        &[
-            Name("machines "),
-            Byte(machines),
-            Name(", groups "),
-            Wide(kept.groups),
-            Name(", messages "),
-            Wide(kept.messages),
-        ],
-    )
+    let p = Point { x: 10, y: 20 };
+    if kept.part.first <= 1 {
+        put_written(
+            into,
+            "t",
+            p,
+            &[
+                Name("machines "),
+                Byte(machines),
+                Name(", groups "),
+                Wide(kept.groups),
+                Name(", messages "),
+                Wide(kept.messages),
+            ],
+        )
+    } else {
+        put_written(
+            into,
+            "t",
+            p,
+            &[
+                Name("machines "),
+                Byte(machines),
+                Name(", groups "),
+                Wide(kept.groups),
+                Name(", messages "),
+                Wide(kept.messages),
+                Name("; from group "),
+                Wide(kept.part.first),
+            ],
+        )
+    }
 }
 
 /// Writes what the picture leaves out, and why it ends.
@@ -355,7 +375,7 @@ fn put_shapes(
     starts: &[Pid],
     kept: &Kept,
 ) -> Result<(), NoMemory>
-    ensures { OnOk result (into.new.items ≡ into.old.items ++ all_drawn frame.now (shapes frame.now.machines frame.now.rows starts.now kept.now.lines)) }
+    ensures { OnOk result (into.new.items ≡ into.old.items ++ all_drawn frame.now (shapes frame.now.machines frame.now.rows frame.now.hidden starts.now kept.now.lines)) }
 {
     let lines = kept.lines.as_slice();
     put_columns(into, frame)?;
@@ -383,7 +403,7 @@ fn put_starts(
     starts: &[Pid],
     lines: &[Line],
 ) -> Result<(), NoMemory>
-    ensures { OnOk result (into.new.items ≡ into.old.items ++ all_drawn frame.now (map (first_bar frame.now.rows lines.now) starts.now)) }
+    ensures { OnOk result (into.new.items ≡ into.old.items ++ all_drawn frame.now (map (first_bar frame.now.rows frame.now.hidden lines.now) starts.now)) }
 {
     for start in starts {
         put_living(
@@ -392,7 +412,7 @@ fn put_starts(
             frame,
             *start,
             start.home,
-            first_spot(),
+            first_spot(frame.hidden),
             lines,
             lines,
         )?;

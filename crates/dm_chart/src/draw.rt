@@ -1,7 +1,8 @@
 //! Drawing the shapes of a picture, a function a shape: in each layer what the shape has there.
 ghost use Rattle.std.specs.Prelude.{◌≡◌, ◌≤◌, [], ◌++◌, OnOk, codes, map};
 ghost use Rattle.dm_text.specs.Written.{word_text};
-ghost use Rattle.dm_chart.specs.Drawn.{bar_name, by_layer, draw_arrow, draw_bar, draw_beside, draw_column, draw_group, draw_lost, draw_marked, draw_moves, draw_packet, draw_waits, draw_way, directive_words, drawn_mark, group_words, heading, heading_again, headings_again, name_again, names_again, stroke, tinted, written};
+ghost use Rattle.dm_chart.specs.Drawn.{bar_name, by_layer, directive_words, draw_arriving, draw_arrow, draw_bar, draw_beside, draw_column, draw_group, draw_hidden_arrow, draw_lost, draw_marked, draw_moves, draw_packet, draw_shown_arrow, draw_waits, draw_way, drawn_mark, group_words, heading, heading_again, headings_again, letter_words, name_again, names_again, stroke, tinted, unless_over, written};
+ghost use Rattle.dm_chart.specs.Styles.{label_class};
 
 use crate::frame::{
     Frame, Layer, Place, Point, WORDS, above_next, axis, blocks_before, column, goes_on, height,
@@ -188,8 +189,11 @@ pub fn put_bar(
     last: u32,
     lane: Option<usize>,
 ) -> Result<(), NoMemory>
-    ensures { OnOk result (into.new.items ≡ into.old.items ++ draw_bar frame.now pid m row last lane) }
+    ensures { OnOk result (into.new.items ≡ into.old.items ++ unless_over last (draw_bar frame.now pid m row last lane)) }
 {
+    if last == 0 {
+        return Ok(());
+    }
     let Some(lane) = lane else {
         return Ok(());
     };
@@ -269,8 +273,11 @@ pub fn put_waits(
     last: u32,
     lane: Option<usize>,
 ) -> Result<(), NoMemory>
-    ensures { OnOk result (into.new.items ≡ into.old.items ++ draw_waits frame.now m row last lane) }
+    ensures { OnOk result (into.new.items ≡ into.old.items ++ unless_over last (draw_waits frame.now m row last lane)) }
 {
+    if last == 0 {
+        return Ok(());
+    }
     let Some(lane) = lane else {
         return Ok(());
     };
@@ -297,8 +304,11 @@ pub fn put_moves(
     last: u32,
     lane: Option<usize>,
 ) -> Result<(), NoMemory>
-    ensures { OnOk result (into.new.items ≡ into.old.items ++ draw_moves frame.now from row to last lane) }
+    ensures { OnOk result (into.new.items ≡ into.old.items ++ unless_over last (draw_moves frame.now from row to last lane)) }
 {
+    if last == 0 {
+        return Ok(());
+    }
     let Some(lane) = lane else {
         return Ok(());
     };
@@ -451,15 +461,83 @@ pub fn put_arrow(
 ) -> Result<(), NoMemory>
     ensures { OnOk result (into.new.items ≡ into.old.items ++ draw_arrow frame.now style letter row last) }
 {
+    if row == 0 {
+        put_hidden_arrow(into, frame, style, letter, last)
+    } else {
+        put_shown_arrow(into, frame, style, letter, row, last)
+    }
+}
+
+/// Draws a message that is put before the first row.
+fn put_hidden_arrow(
+    into: &mut Vec<u8>,
+    frame: &Frame,
+    style: Style,
+    letter: Letter,
+    last: Option<u32>,
+) -> Result<(), NoMemory>
+    ensures { OnOk result (into.new.items ≡ into.old.items ++ draw_hidden_arrow frame.now style letter last) }
+{
+    match last {
+        Some(last) => put_arriving(into, frame, style, letter, last),
+        None => Ok(()),
+    }
+}
+
+/// Draws it to where it enters an inbox, and tells of it there.
+fn put_arriving(
+    into: &mut Vec<u8>,
+    frame: &Frame,
+    style: Style,
+    letter: Letter,
+    last: u32,
+) -> Result<(), NoMemory>
+    ensures { OnOk result (into.new.items ≡ into.old.items ++ draw_arriving frame.now style letter last) }
+{
+    if last == 0 {
+        return Ok(());
+    }
+    put_arrow_way(into, frame, style, letter, 0, Some(last))?;
+    let place = Place {
+        frame,
+        m: letter.to,
+        row: last,
+    };
+    put_letter_words(into, &place, style, letter)
+}
+
+/// Draws a message that is put in a row.
+fn put_shown_arrow(
+    into: &mut Vec<u8>,
+    frame: &Frame,
+    style: Style,
+    letter: Letter,
+    row: u32,
+    last: Option<u32>,
+) -> Result<(), NoMemory>
+    ensures { OnOk result (into.new.items ≡ into.old.items ++ draw_shown_arrow frame.now style letter row last) }
+{
     put_arrow_way(into, frame, style, letter, row, last)?;
     let place = Place {
         frame,
         m: letter.from,
         row,
     };
+    put_letter_words(into, &place, style, letter)
+}
+
+/// Writes a message's name, its kind and its receiver.
+fn put_letter_words(
+    into: &mut Vec<u8>,
+    place: &Place<'_>,
+    style: Style,
+    letter: Letter,
+) -> Result<(), NoMemory>
+    ensures { OnOk result (into.new.items ≡ into.old.items ++ draw_beside place.now.frame.now place.now.m place.now.row (label_class style) (letter_words letter)) }
+{
     put_beside(
         into,
-        &place,
+        place,
         label_class(style),
         &[
             Message(letter.id),
@@ -480,8 +558,11 @@ pub fn put_packet(
     row: u32,
     last: u32,
 ) -> Result<(), NoMemory>
-    ensures { OnOk result (into.new.items ≡ into.old.items ++ draw_packet frame.now from to row last) }
+    ensures { OnOk result (into.new.items ≡ into.old.items ++ unless_over last (draw_packet frame.now from to row last)) }
 {
+    if last == 0 {
+        return Ok(());
+    }
     match frame.layer {
         Layer::Grounds | Layer::Words => Ok(()),
         Layer::Ways => {
@@ -505,8 +586,11 @@ pub fn put_marked_packet(
     row: u32,
     last: u32,
 ) -> Result<(), NoMemory>
-    ensures { OnOk result (into.new.items ≡ into.old.items ++ draw_marked frame.now name.now from to row last) }
+    ensures { OnOk result (into.new.items ≡ into.old.items ++ unless_over last (draw_marked frame.now name.now from to row last)) }
 {
+    if last == 0 {
+        return Ok(());
+    }
     match frame.layer {
         Layer::Grounds | Layer::Words => Ok(()),
         Layer::Ways => {
@@ -525,8 +609,11 @@ pub fn put_lost(
     to: u8,
     row: u32,
 ) -> Result<(), NoMemory>
-    ensures { OnOk result (into.new.items ≡ into.old.items ++ draw_lost frame.now from to row) }
+    ensures { OnOk result (into.new.items ≡ into.old.items ++ unless_over row (draw_lost frame.now from to row)) }
 {
+    if row == 0 {
+        return Ok(());
+    }
     match frame.layer {
         Layer::Grounds | Layer::Words => Ok(()),
         Layer::Ways => {

@@ -46,6 +46,8 @@ pub struct Frame {
     pub numbers: Items<u64>,
     /// How many rows there are, with one below the last of which nothing is said: all goes into it that goes on.
     pub rows: u32,
+    /// How many lines stand before the first group that is shown.
+    pub hidden: u64,
     /// The layer that is drawn now.
     pub layer: Layer,
 }

@@ -1,22 +1,39 @@
 //! Which groups a picture shows.
 ghost use Rattle.std.specs.Prelude.{◌≡◌, ◌≤◌, ◌++◌, OnOk};
-ghost use Rattle.dm_chart.specs.Kept.{is_put_line, keep, messages_in, none_kept, plus, rows_fit, rows_in};
+ghost use Rattle.dm_chart.specs.Kept.{comes_before, is_put_line, keep, messages_in, none_kept, plus, rows_fit, rows_in};
 
 use crate::role::{Role, role_of};
-use crate::spot::{MOST_ROWS, first_spot, next_spot};
+use crate::spot::{MOST_ROWS, first_spot, shown_spot};
 use dm_line::line::Line;
 use dm_lists::Items;
 use dm_memory::NoMemory;
 use std::alloc::Global;
 
-/// The groups of a run that a picture shows: those of which something is seen, one after another, as long as there is
-/// room; and how many there were.
+/// The groups of a run that a picture is asked for, by their numbers, from 1.
+#[derive(Clone, Copy)]
+pub struct Part {
+    /// The first of them and the last; there is none of them where the last comes before the first.
+    pub first: u64,
+    pub last: u64,
+}
+
+/// All groups of a run.
+pub const ALL_GROUPS: Part = Part {
+    first: 1,
+    last: u64::MAX,
+};
+
+/// The groups of a run that a picture shows: of those that it is asked for those of which something is seen, one after
+/// another, as long as there is room; and how many there were.
 #[derive(Drop)]
 pub struct Kept {
+    pub part: Part,
     /// Of each group that is shown, which one of the run it is, from 1.
     pub numbers: Items<u64>,
-    /// Their lines.
+    /// The lines of those before them, and then their own.
     pub lines: Items<Line>,
+    /// How many of these lines stand before the first group that is shown.
+    pub hidden: u64,
     pub rows: u32,
     /// A group was left out for want of room.
     pub full: bool,
@@ -27,13 +44,15 @@ pub struct Kept {
 }
 
 impl Kept {
-    /// No group has come.
-    pub fn new(alloc: Global) -> Kept
-        ensures { result ≡ none_kept }
+    /// No group has come, of a picture of these groups.
+    pub fn new(alloc: Global, part: Part) -> Kept
+        ensures { result ≡ none_kept part }
     {
         Kept {
+            part,
             numbers: Items::new(alloc),
             lines: Items::new(alloc),
+            hidden: 0,
             rows: 0,
             full: false,
             groups: 0,
@@ -55,7 +74,10 @@ pub fn keep(kept: &mut Kept, group: Vec<Line>) -> Result<(), NoMemory>
     let messages = messages_in(group.as_slice()) as u64;
     let number = plus(kept.groups, 1);
     if rows > 0 {
-        if fits(kept, rows) {
+        if comes_before(kept) {
+            append(&mut kept.lines, group)?;
+            kept.hidden = kept.lines.len() as u64;
+        } else if fits(kept, rows) {
             kept.numbers.push(number)?;
             append(&mut kept.lines, group)?;
             kept.rows += rows;
@@ -70,13 +92,20 @@ pub fn keep(kept: &mut Kept, group: Vec<Line>) -> Result<(), NoMemory>
     Ok(())
 }
 
-/// Whether so many rows more have room.
+/// Whether one group more stands before the first that is to be shown.
+fn comes_before(kept: &Kept) -> bool
+    ensures { result ≡ comes_before kept.now }
+{
+    !kept.full && plus(kept.groups, 1) < kept.part.first
+}
+
+/// Whether one group more is to be shown, and its rows have room.
 fn fits(kept: &Kept, rows: u32) -> bool
     requires kept { kept.now.rows ≤ MOST_ROWS }
     requires rows { rows ≤ MOST_ROWS }
     ensures { result ≡ rows_fit kept.now rows }
 {
-    !kept.full && kept.rows + rows < MOST_ROWS
+    !kept.full && plus(kept.groups, 1) <= kept.part.last && kept.rows + rows < MOST_ROWS
 }
 
 /// A sum within 64 bits.
@@ -92,9 +121,9 @@ fn rows_in(group: &[Line]) -> u32
     ensures rows { result ≡ rows_in group.now }
     ensures most { result ≤ MOST_ROWS }
 {
-    let mut spot = first_spot();
+    let mut spot = first_spot(0);
     for line in group {
-        spot = next_spot(spot, line);
+        spot = shown_spot(spot, line);
     }
     spot.row
 }

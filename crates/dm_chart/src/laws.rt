@@ -6,7 +6,8 @@ pub fn arrows_are_puts()
     ensures { ArrowsArePuts }
 {}
 
-/// Of all messages that a run puts the first have an arrow in its picture, and the others are counted as left out.
+/// Of all messages that a run puts the first have an arrow in the picture of all its groups, and the others are counted as
+/// left out.
 pub fn puts_have_arrows()
     ensures { PutsHaveArrows }
 {}

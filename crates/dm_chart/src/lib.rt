@@ -16,5 +16,5 @@ mod style;
 mod xml;
 
 pub use chart::{Reach, picture, starts_of};
-pub use kept::{Kept, keep};
+pub use kept::{ALL_GROUPS, Kept, Part, keep};
 pub use spot::MOST_ROWS;

@@ -1,9 +1,10 @@
 //! The shapes of lines.
-ghost use Rattle.std.specs.Prelude.{◌≡◌, [], ◌∷◌, ◌++◌, OnOk, false};
-ghost use Rattle.dm_chart.specs.Ahead.{first_ahead, is_restart};
-ghost use Rattle.dm_chart.specs.Behind.{waits_behind};
-ghost use Rattle.dm_chart.specs.Drawn.{all_drawn};
-ghost use Rattle.dm_chart.specs.Shapes.{bar, comes_at, deliveries, fate_here, group_shapes, letter_shapes, life_shapes, line_shapes, moves_shown, own_shapes, sending_shapes, shapes_from, wait, wait_if};
+ghost use Rattle.std.specs.Prelude.{◌≡◌, [], ◌∷◌, ◌++◌, IfOk, OnOk, false};
+ghost use Rattle.dm_chart.specs.Ahead.{first_ahead, is_end, is_restart};
+ghost use Rattle.dm_chart.specs.Behind.{kills_of, waits_behind};
+ghost use Rattle.dm_chart.specs.Drawn.{all_drawn, draw_note, unless_over};
+ghost use Rattle.dm_chart.specs.Notes.{note_of};
+ghost use Rattle.dm_chart.specs.Shapes.{bar, comes_at, deliveries, fate_here, group_shapes, letter_shapes, life_shapes, line_shapes, moves_shown, own_shapes, row_or, sending_shapes, shapes_from, wait, wait_if};
 ghost use Rattle.dm_chart.specs.Spots.{first_spot};
 
 use crate::draw::{
@@ -48,9 +49,9 @@ pub fn put_lines(
     frame: &Frame,
     lines: &[Line],
 ) -> Result<(), NoMemory>
-    ensures { OnOk result (into.new.items ≡ into.old.items ++ all_drawn frame.now (shapes_from frame.now.rows lines.now [] first_spot lines.now)) }
+    ensures { OnOk result (into.new.items ≡ into.old.items ++ all_drawn frame.now (shapes_from frame.now.rows lines.now [] (first_spot frame.now.hidden) lines.now)) }
 {
-    let mut spot = first_spot();
+    let mut spot = first_spot(frame.hidden);
     for (i, line) in lines.iter().enumerate() {
         let page = Page {
             all: lines,
@@ -84,7 +85,24 @@ fn put_line(
         m: spot.machine,
         row: spot.row,
     };
-    put_note(into, &place, page.before, line)
+    put_row_note(into, &place, page.before, line)
+}
+
+/// Writes what is said of a line, unless it stands before the first row.
+fn put_row_note(
+    into: &mut Vec<u8>,
+    place: &Place<'_>,
+    before: &[Line],
+    line: &Line,
+) -> Result<(), NoMemory>
+    ensures { OnOk result (into.new.items ≡ into.old.items ++
+        unless_over place.now.row (draw_note place.now.frame.now place.now.m place.now.row (note_of before.now line.now))) }
+{
+    if place.row == 0 {
+        Ok(())
+    } else {
+        put_note(into, place, before, line)
+    }
 }
 
 /// Draws that a group begins, where this is its first row.
@@ -343,7 +361,7 @@ fn put_waiting(
 }
 
 /// Draws a process's life on a machine, from a place on.
-#[tactic(auto, unfolding(crate::specs::Ahead::is_wanted), using(crate::proofs::Walks::drawn_lemmas))]
+#[tactic(auto, using(crate::proofs::Walks::drawn_lemmas))]
 pub fn put_living(
     alloc: Global,
     into: &mut Vec<u8>,
@@ -356,13 +374,28 @@ pub fn put_living(
 ) -> Result<(), NoMemory>
     ensures { OnOk result (into.new.items ≡ into.old.items ++ all_drawn frame.now (bar frame.now.rows lines.now pid m spot after.now ∷ [])) }
 {
+    let last = end_of(alloc, frame, pid, spot, lines, after)?;
+    put_bar(into, frame, pid, m, spot.row, last, lane_of(frame, pid))
+}
+
+/// The row at which a process's life on a machine ends, from a place on; the last one, where it goes on.
+#[tactic(auto, unfolding(crate::specs::Ahead::is_wanted))]
+fn end_of(
+    alloc: Global,
+    frame: &Frame,
+    pid: Pid,
+    spot: Spot,
+    lines: &[Line],
+    after: &[Line],
+) -> Result<u32, NoMemory>
+    ensures { IfOk result (λ last. last ≡ row_or frame.now.rows (first_ahead (is_end pid (kills_of pid lines.now)) spot after.now)) }
+{
     let kills = kills_of(alloc, lines, pid)?;
     let kills = kills.as_slice();
-    let last = match first_ahead(Wanted::End { pid, kills }, spot, after) {
-        Some(found) => found.row,
-        None => frame.rows,
-    };
-    put_bar(into, frame, pid, m, spot.row, last, lane_of(frame, pid))
+    match first_ahead(Wanted::End { pid, kills }, spot, after) {
+        Some(found) => Ok(found.row),
+        None => Ok(frame.rows),
+    }
 }
 
 /// Draws where a process goes on that leaves, or that it is still frozen behind the last row.

@@ -2,7 +2,7 @@
 ghost use Rattle.std.specs.Prelude.{◌≡◌, ◌≤◌, if◌then◌else◌};
 ghost use Rattle.dm_link.specs.Names.{pid_eq};
 ghost use Rattle.dm_onekernel.specs.Boot.{manager};
-ghost use Rattle.dm_chart.specs.Spots.{acting_machine, first_spot, next_spot, one_row_more, seated, spot_after, with_row, without_row};
+ghost use Rattle.dm_chart.specs.Spots.{acting_machine, first_spot, hidden_after, next_spot, one_less, one_row_more, seated, shown_spot, spot_after, with_row, without_row};
 
 use crate::role::{Life, Role, role_of};
 use dm_line::line::Line;
@@ -28,11 +28,13 @@ pub struct Spot {
     pub begun: bool,
     /// The last line put a message.
     pub own: bool,
+    /// How many more lines stand before the first group that is shown.
+    pub hidden: u64,
 }
 
-/// Before the first line.
-pub fn first_spot() -> Spot
-    ensures { result ≡ first_spot }
+/// Before the first line, where so many lines stand before the first group that is shown.
+pub fn first_spot(hidden: u64) -> Spot
+    ensures { result ≡ first_spot hidden }
 {
     Spot {
         row: 0,
@@ -42,6 +44,7 @@ pub fn first_spot() -> Spot
         seat: 0,
         begun: false,
         own: false,
+        hidden,
     }
 }
 
@@ -51,7 +54,53 @@ pub fn next_spot(spot: Spot, line: &Line) -> Spot
     ensures spot { result ≡ next_spot spot line.now }
     ensures most { spot.row ≤ MOST_ROWS → result.row ≤ MOST_ROWS }
 {
+    if spot.hidden == 0 {
+        shown_spot(spot, line)
+    } else {
+        hidden_after(spot, role_of(line))
+    }
+}
+
+/// Behind one more line of a group that is shown.
+#[tactic(auto, unfolding(crate::specs::Spots::shown_spot))]
+pub fn shown_spot(spot: Spot, line: &Line) -> Spot
+    ensures spot { result ≡ shown_spot spot line.now }
+    ensures most { spot.row ≤ MOST_ROWS → result.row ≤ MOST_ROWS }
+{
     spot_after(spot, role_of(line))
+}
+
+/// Behind a line of this role that stands before the first group that is shown: it has no row.
+fn hidden_after(spot: Spot, role: Role) -> Spot
+    ensures spot { result ≡ hidden_after spot role }
+    ensures same { result.row ≡ spot.row }
+{
+    let less = one_less(spot);
+    match role {
+        Role::Head(step) => Spot {
+            step,
+            machine: machine_of(spot.seat, step),
+            ..less
+        },
+        Role::Put(_) => Spot { own: true, ..less },
+        Role::Note(life) => seated(less, life),
+        Role::Packet { .. }
+        | Role::Taken { .. }
+        | Role::Early { .. }
+        | Role::Again { .. }
+        | Role::Unseen => less,
+    }
+}
+
+/// One line less stands before the first group that is shown.
+fn one_less(spot: Spot) -> Spot
+    ensures { result ≡ one_less spot }
+{
+    Spot {
+        own: false,
+        hidden: spot.hidden.saturating_sub(1),
+        ..spot
+    }
 }
 
 /// Behind a line of this role.
@@ -68,6 +117,7 @@ pub fn spot_after(spot: Spot, role: Role) -> Spot
             seat: spot.seat,
             begun: false,
             own: false,
+            hidden: spot.hidden,
         },
         Role::Put(_) => with_row(spot, true),
         Role::Taken { .. } | Role::Early { .. } | Role::Again { .. } => with_row(spot, false),
@@ -96,6 +146,7 @@ fn with_row(spot: Spot, own: bool) -> Spot
         seat: spot.seat,
         begun: true,
         own,
+        hidden: spot.hidden,
     }
 }
 
@@ -112,6 +163,7 @@ fn without_row(spot: Spot) -> Spot
         seat: spot.seat,
         begun: spot.begun,
         own: false,
+        hidden: spot.hidden,
     }
 }
 

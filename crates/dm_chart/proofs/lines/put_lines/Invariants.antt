@@ -2,4 +2,4 @@ use Rattle.dm_chart.proofs.Names.{◌≡◌, [], ◌++◌, take, drop, all_drawn
 use Rattle.dm_chart.proofs.lines.put_lines.Given as goal
 
 abbrev pub invariant-loop-i : goal.invariant-loop-i
-invariant-loop-i l = l.into.items ++ all_drawn l.frame (shapes_from l.frame.rows l.lines (take l.i l.lines) l.spot (drop l.i l.lines)) ≡ l.initial.into.items ++ all_drawn l.frame (shapes_from l.frame.rows l.lines [] first_spot l.lines)
+invariant-loop-i l = l.into.items ++ all_drawn l.frame (shapes_from l.frame.rows l.lines (take l.i l.lines) l.spot (drop l.i l.lines)) ≡ l.initial.into.items ++ all_drawn l.frame (shapes_from l.frame.rows l.lines [] (first_spot l.frame.hidden) l.lines)
