@@ -6,8 +6,10 @@ THREE = {"add": 4, "sub": 5, "mul": 6, "and": 7, "or": 8, "xor": 9, "shl": 10, "
 LOADS = {"lw": 12, "sw": 13, "lb": 14, "sb": 15}
 BRANCHES = {"beq": 17, "bne": 18, "bltu": 19}
 
-# What the operands of each word are, and its number. Kinds: r register, v value or label, n number to 255, d distance.
-FORMS = {"li": ("rv", 1), "lih": ("rv", 2), "mov": ("rr", 3), "jmp": ("v", 16), "sys": ("n", 20)}
+CALLS = {"EXIT": 1, "OUT": 2, "MAKE": 3, "COPY": 4, "DROP": 5, "SEND": 6, "RECEIVE": 7, "MOVE": 8}
+
+# What the operands of each word are, and its number. Kinds: r register, v value or label, n number to 255, c call, d distance.
+FORMS = {"li": ("rv", 1), "lih": ("rv", 2), "mov": ("rr", 3), "jmp": ("v", 16), "sys": ("c", 20)}
 FORMS.update({word: ("rrr", number) for word, number in THREE.items()})
 FORMS.update({word: ("rrn", number) for word, number in LOADS.items()})
 FORMS.update({word: ("rrd", number) for word, number in BRANCHES.items()})
@@ -16,6 +18,8 @@ LABEL = re.compile(r"[a-z_][a-z0-9_]{0,15}")
 REGISTER = re.compile(r"r([0-9]|1[0-5])")
 NUMBER = re.compile(r"[0-9]+|0x[0-9a-fA-F]+")
 BEGINS_A_LABEL = re.compile(r"[A-Za-z_]")
+ENDS_WITH_A_TEXT = re.compile(r'[^"]*"([ !#-~]*)"[ \t\r,]*')
+DIRECTIVES = (".word", ".byte", ".zero", ".align", ".ascii")
 MOST_BYTES = 65_536
 
 
@@ -39,6 +43,12 @@ class Wrong(Exception):
 def words_of(line):
     """The words of a line, without its comment."""
     return [word for word in re.split(r"[ \t\r,]", line.split(";")[0]) if word]
+
+
+def text_of(line):
+    """The text between quotation marks with which a line ends, without its comment."""
+    found = ENDS_WITH_A_TEXT.fullmatch(line.split(";")[0])
+    return found and found[1]
 
 
 def number_of(word, most):
@@ -79,6 +89,11 @@ def value_of(word, labels, most):
     return value
 
 
+def call_of(word):
+    """A call's number, or its name in capital letters."""
+    return CALLS[word] if word in CALLS else number_of(word, 255)
+
+
 def distance_of(word, labels, place):
     """How many words a label is from behind the instruction at this place."""
     if not BEGINS_A_LABEL.match(word):
@@ -98,32 +113,51 @@ def parts_of(line):
     return None, words, False
 
 
-def size_of(words):
-    """How many bytes a line counts, whether or not something is wrong with it."""
+def padding_of(word, place):
+    """How many bytes it is from a place to the next multiple of a number."""
+    multiple = number_of(word, MOST_BYTES)
+    if multiple == 0:
+        raise Wrong(4)
+    return -place % multiple
+
+
+def text_operand(word, text):
+    """A text in whose line the first operand begins with its mark."""
+    if text is None or not word.startswith('"'):
+        raise Wrong(3)
+    return text
+
+
+def size_of(words, place, text):
+    """How many bytes a line with such a text counts at a place, whether or not something is wrong with it."""
     if not words:
         return 0
     if words[0] in FORMS or words[0] == ".word":
         return 4
     if words[0] == ".byte":
         return len(words) - 1
-    if words[0] == ".zero" and len(words) == 2:
-        try:
+    try:
+        if words[0] == ".zero" and len(words) == 2:
             return number_of(words[1], MOST_BYTES)
-        except Wrong:
-            return 0
+        if words[0] == ".align" and len(words) == 2:
+            return padding_of(words[1], place)
+        if words[0] == ".ascii" and len(words) >= 2:
+            return len(text_operand(words[1], text))
+    except Wrong:
+        return 0
     return 0
 
 
 def count_fits(word, count):
-    if word == ".byte":
+    if word in (".byte", ".ascii"):
         return count >= 1
-    if word in (".word", ".zero"):
+    if word in DIRECTIVES:
         return count == 1
     return count == len(FORMS[word][0])
 
 
-def bytes_of(words, labels, place):
-    """The bytes of an instruction or directive."""
+def bytes_of(words, labels, place, text):
+    """The bytes of an instruction or directive, in a line with such a text."""
     word, operands = words[0], words[1:]
     if word == ".word":
         return value_of(operands[0], labels, 2**32 - 1).to_bytes(4, "big")
@@ -131,6 +165,10 @@ def bytes_of(words, labels, place):
         return bytes(number_of(operand, 255) for operand in operands)
     if word == ".zero":
         return bytes(number_of(operands[0], MOST_BYTES))
+    if word == ".align":
+        return bytes(padding_of(operands[0], place))
+    if word == ".ascii":
+        return text_operand(operands[0], text).encode("ascii")
     kinds, number = FORMS[word]
     values = []
     for kind, operand in zip(kinds, operands):
@@ -140,6 +178,8 @@ def bytes_of(words, labels, place):
             values.extend(value_of(operand, labels, 65_535).to_bytes(2, "big"))
         elif kind == "n":
             values.append(number_of(operand, 255))
+        elif kind == "c":
+            values.append(call_of(operand))
         else:
             values.append(distance_of(operand, labels, place) % 256)
     if word in ("jmp", "sys"):
@@ -147,21 +187,32 @@ def bytes_of(words, labels, place):
     return bytes([number] + values + [0] * (3 - len(values)))
 
 
+def labels_of(text):
+    """The labels of a text, and their values."""
+    labels, place = {}, 0
+    for line in text.split("\n"):
+        label, words, bad_label = parts_of(line)
+        if label is not None:
+            labels.setdefault(label, place)
+        place += 0 if bad_label else size_of(words, place, text_of(line))
+    return labels
+
+
 def assemble(text):
     """A text's image, or its first fault."""
-    lines = [parts_of(line) for line in text.split("\n")]
+    lines = [(*parts_of(line), text_of(line)) for line in text.split("\n")]
     labels, places, again, place = {}, [], set(), 0
-    for number, (label, words, _) in enumerate(lines, 1):
+    for number, (label, words, _, ending) in enumerate(lines, 1):
         places.append(place)
         if label is not None:
             if label in labels:
                 again.add(number)
             else:
                 labels[label] = place
-        place += size_of(words)
+        place += size_of(words, place, ending)
     image = bytearray()
-    for number, (label, words, bad_label) in enumerate(lines, 1):
-        if bad_label or words and words[0] not in FORMS and words[0] not in (".word", ".byte", ".zero"):
+    for number, (label, words, bad_label, ending) in enumerate(lines, 1):
+        if bad_label or words and words[0] not in FORMS and words[0] not in DIRECTIVES:
             raise Fault(number, 1)
         if number in again:
             raise Fault(number, 6)
@@ -170,7 +221,7 @@ def assemble(text):
         if not count_fits(words[0], len(words) - 1):
             raise Fault(number, 7)
         try:
-            image += bytes_of(words, labels, places[number - 1])
+            image += bytes_of(words, labels, places[number - 1], ending)
         except Wrong as wrong:
             raise Fault(number, wrong.why) from None
         if len(image) > MOST_BYTES:

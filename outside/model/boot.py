@@ -4,7 +4,7 @@ import re
 import tomllib
 from dataclasses import dataclass
 
-from assembler import Fault, assemble
+from assembler import Fault, assemble, labels_of
 from values import MANAGER, SWITCHBOARD, Address, Link, Pid
 
 NAME = re.compile(r"[a-z0-9_]{1,16}")
@@ -26,6 +26,7 @@ class Image:
     name: str
     blocks: int
     code: bytes
+    labels: dict
 
 
 @dataclass
@@ -71,18 +72,24 @@ def is_truth(value):
     return isinstance(value, bool)
 
 
+def is_place(value):
+    """An integer, or a label."""
+    return is_integer(value) or is_string(value)
+
+
 def within(low, value, high):
     return low <= value <= high
 
 
-LINK_NUMBERS = ("code", "channel", "base", "len")
+LINK_NUMBERS = ("code", "channel")
+LINK_PLACES = ("base", "len")
 LINK_TRUTHS = ("reply", "read", "write")
 
 
 def is_link(link):
     if "control" in link:
         return has_keys(link, {"control": is_string})
-    optional = {**{key: is_integer for key in LINK_NUMBERS}, **{key: is_truth for key in LINK_TRUTHS}}
+    optional = {**{key: is_integer for key in LINK_NUMBERS}, **{key: is_place for key in LINK_PLACES}, **{key: is_truth for key in LINK_TRUTHS}}
     return has_keys(link, {"to": is_string}, optional)
 
 
@@ -143,7 +150,7 @@ def read_boot(data):
     codes = [code_of(image["text"]) for image in images]
     first(11, (code is None for code in codes))
     first(12, (len(code) > BLOCK * image["blocks"] for code, image in zip(codes, images)))
-    made = [Image(image["name"], image["blocks"], code) for image, code in zip(images, codes)]
+    made = [Image(image["name"], image["blocks"], code, labels_of(image["text"])) for image, code in zip(images, codes)]
 
     first(13, (not is_process(process) for process in processes))
     names = [process["name"] for process in processes]
@@ -195,23 +202,38 @@ def is_known(link, born):
 def is_in_range(link, born):
     if "control" in link:
         return True
-    code, channel, base, length = (link.get(key, 0) for key in LINK_NUMBERS)
+    code, channel = (link.get(key, 0) for key in LINK_NUMBERS)
     if not (within(0, code, 2**32 - 1) and within(0, channel, 31)):
         return False
     if link["to"] not in born:
-        return code == base == length == 0 and not link.get("read", False) and not link.get("write", False)
-    return base >= 0 and length >= 0 and base + length <= BLOCK * born[link["to"]].image.blocks
+        return code == link.get("base", 0) == link.get("len", 0) == 0 and not link.get("read", False) and not link.get("write", False)
+    base, length = area_of(link, born[link["to"]].image.labels)
+    return base is not None and length is not None and base >= 0 and length >= 0 and base + length <= BLOCK * born[link["to"]].image.blocks
+
+
+def area_of(link, labels):
+    """Where a link's area begins, and how long it is. A label as base is where it stands, and as length the area ends there. None where
+    there is no such label, or it stands before the base."""
+    base, length = (link.get(key, 0) for key in LINK_PLACES)
+    if is_string(base):
+        base = labels.get(base)
+    if is_string(length):
+        end = labels.get(length)
+        length = end - base if None not in (base, end) and base <= end else None
+    return base, length
 
 
 def link_of(link, born, children):
     if "control" in link:
         return Link(Address(MANAGER, 0), code=children[link["control"]])
-    code, channel, base, length = (link.get(key, 0) for key in LINK_NUMBERS)
+    code, channel = (link.get(key, 0) for key in LINK_NUMBERS)
     reply, read, write = (link.get(key, False) for key in LINK_TRUTHS)
     if link["to"] in born:
         to = born[link["to"]]
         address = Address(to.pid, to.machine)
+        base, length = area_of(link, to.image.labels)
     else:
         address = Address(SERVERS[link["to"]], 0)
+        base = length = 0
     return Link(address, reply, code, channel, base, length, read, write)
 

@@ -382,13 +382,14 @@ class Files(Drawing):
     """A boot file and a schedule for the readers: small ones. Odd are some keys and values, or lines of a program, or of the
     schedule."""
 
-    WORDS = {"li": "rv", "lih": "rv", "mov": "rr", "jmp": "v", "sys": "n", ".word": "w", ".byte": "nn", ".zero": "z"}
+    WORDS = {"li": "rv", "lih": "rv", "mov": "rr", "jmp": "v", "sys": "c", ".word": "w", ".byte": "nn", ".zero": "z", ".align": "m", ".ascii": "t"}
     WORDS.update(dict.fromkeys("add sub mul and or xor shl shr".split(), "rrr"))
     WORDS.update(dict.fromkeys("lw sw lb sb".split(), "rrn"))
     WORDS.update(dict.fromkeys("beq bne bltu".split(), "rrl"))
     OPERANDS = {"r": "r0 r7 r15", "v": "x y z 5 65535 0xff", "n": "0 1 255 0x7f", "w": "x 4294967295 0", "z": "0 1 4 500", "l": "x y z"}
+    OPERANDS.update({"c": "0 1 255 0x7f EXIT SEND MOVE", "m": "1 2 3 4 0x10", "t": '"" "a" "a,b" "~!"'})
     ODD_OPERANDS = (
-        "r16 r01 R1 r rr Foo nowhere abcdefghijklmnop abcdefghijklmnopq 256 65536 65537 4294967296 0x0 0xFF 0x10000 0x100000000 0x 0X1"
+        "r16 r01 R1 r rr Foo SEND \"a \"a;b\" nowhere abcdefghijklmnop abcdefghijklmnopq 256 65536 65537 4294967296 0x0 0xFF 0x10000 0x100000000 0x 0X1"
         " 007 00000000000000000000000000000000001 99999999999999999999999999 -1 +1 1_0 \u00e9 - ."
     ).split(" ")
     ODD_LABELS = "x: y: z: : A: 1a: _: x:y: x:: abcdefghijklmnop: abcdefghijklmnopq: r1: li:".split(" ")

@@ -23,7 +23,7 @@ class Drawing:
 
 
 def drawn_boot(machines):
-    image = Image("drill", 1, CODE)
+    image = Image("drill", 1, CODE, {})
     count = 2 * machines
     pids = [Pid(i % machines, 3 + i // machines) for i in range(count)]
     addresses = [Address(pid, pid.home) for pid in pids]

@@ -2,19 +2,22 @@
 
 import boot as boot_file
 import schedule as schedule_file
-from assembler import BEGINS_A_LABEL, FORMS, LABEL, MOST_BYTES, NUMBER, REGISTER, Wrong, bytes_of, count_fits, parts_of, size_of, words_of
+from assembler import BEGINS_A_LABEL, FORMS, LABEL, MOST_BYTES, NUMBER, REGISTER, Wrong, bytes_of, count_fits, labels_of, parts_of, size_of, text_of, words_of
 from values import MANAGER, SWITCHBOARD
 
 A_NAME = " is no name, which has 1 to 16 of a to z, 0 to 9 and _"
 A_LABEL = " is no label, which has 1 to 16 of a to z, 0 to 9 and _, the first no digit"
 A_NUMBER = "    a number has digits alone, or 0x and hexadecimal digits"
+A_TEXT = "    a text has printed bytes alone, without quotation marks and semicolons, and nothing stands behind it"
+A_CALL = A_NUMBER + "; a call is EXIT OUT MAKE COPY DROP SEND RECEIVE or MOVE"
 SOME_DIGITS = "    a number has 1 to 10 digits alone"
-SORTS = {int: "an integer", str: "a text", bool: "true or false", list: "an array of tables"}
+SORTS = {(int, str): "an integer or a text", int: "an integer", str: "a text", bool: "true or false", list: "an array of tables"}
 TOP = {"format": int, "numbers": int, "quantum": int, "machine": list, "image": list, "process": list}
 MACHINE = {"slots": int, "blocks": int}
 IMAGE = {"name": str, "blocks": int, "text": str}
 PROCESS = {"name": str, "image": str, "machine": int, "links": list}
-LINK = {"to": str, "code": int, "channel": int, "base": int, "len": int, "reply": bool, "read": bool, "write": bool}
+PLACE = (int, str)
+LINK = {"to": str, "code": int, "channel": int, "base": PLACE, "len": PLACE, "reply": bool, "read": bool, "write": bool}
 CONTROL = {"control": str}
 
 
@@ -45,7 +48,7 @@ def keys_told(table, keys, other=""):
         if key not in table:
             if not may_lack(keys, key):
                 return f"{key} must be {SORTS[sort]}, and it is missing"
-        elif type(table[key]) is not sort:
+        elif type(table[key]) not in (sort if isinstance(sort, tuple) else (sort,)):
             return f"{key} must be {SORTS[sort]}"
     return other
 
@@ -69,7 +72,7 @@ def rule_told(number, place, document, data):
     """The lines of a rule that the document of a file breaks at a place."""
     machines, images, processes = (document.get(key, []) for key in ("machine", "image", "process"))
     if number == 11:
-        return text_told(images[place], data)
+        return [line for image in images[place:] for line in text_told(image, data)]
     if number in (2, 3, 4, 7):
         said = top_told(number, document)
     elif number in (5, 6):
@@ -81,9 +84,19 @@ def rule_told(number, place, document, data):
     return [f"rule {number}: {said}"]
 
 
+def no_table_told(document):
+    """The first machine, image or process that is no table."""
+    for key in ("machine", "image", "process"):
+        elements = document.get(key, [])
+        for place, element in enumerate(elements if isinstance(elements, list) else []):
+            if not isinstance(element, dict):
+                return f"{key} {place}: it must be a table"
+    return ""
+
+
 def top_told(number, document):
     if number == 2:
-        return keys_told(document, TOP, "machine, image and process must be arrays of tables")
+        return keys_told(document, TOP, no_table_told(document))
     if number == 3:
         return limit_told(document, [("numbers", 1, 1_048_576), ("quantum", 1, 1_000), ("format", 1, 2)])
     if number == 4:
@@ -126,10 +139,10 @@ def process_told(number, place, process, document):
         return title + f"with those before it there is no room for it on machine {home}, which has slots = {room['slots']} and blocks = {room['blocks']}"
     if number == 18:
         return title + count_told(len(links), "links", 0, 32 if document.get("format", 1) == 1 else 128)
-    sizes = {other["name"]: 256 * image["blocks"] for other in document["process"] for image in document["image"] if image["name"] == other["image"]}
-    holds = (lambda link: boot_file.is_known(link, sizes)) if number == 19 else (lambda link: link_limit_told(link, sizes) is None)
+    images = {other["name"]: image for other in document["process"] for image in document["image"] if image["name"] == other["image"]}
+    holds = (lambda link: boot_file.is_known(link, images)) if number == 19 else (lambda link: link_limit_told(link, images) is None)
     bad = next(k for k, link in enumerate(links) if not holds(link))
-    said = target_told(links[bad]) if number == 19 else link_limit_told(links[bad], sizes)
+    said = target_told(links[bad]) if number == 19 else link_limit_told(links[bad], images)
     return title + f"link {bad}: {said}"
 
 
@@ -145,24 +158,39 @@ def target_told(link):
     return f"no process or server is named {quoted(link['to'])}"
 
 
-def link_limit_told(link, sizes):
+def link_limit_told(link, images):
     """Why a link's numbers aren't within their limits, if they aren't."""
     if "control" in link:
         return None
     limits = [("channel", 0, 31), ("code", 0, 2**32 - 1), ("base", 0, 65_536), ("len", 0, 65_536)]
-    if link["to"] not in sizes:
+    if link["to"] not in images:
         plain = not any(link.get(key, 0) for key in ("code", "base", "len", "read", "write"))
         return limit_told(link, limits[:1]) or (None if plain else "a link to a server has no code, base, len, read or write")
-    size = sizes[link["to"]]
-    fits = link.get("base", 0) + link.get("len", 0) <= size
-    return limit_told(link, limits) or (None if fits else f"base and len are more than {size} together, the bytes of the memory of {quoted(link['to'])}")
+    image = images[link["to"]]
+    size, labels = 256 * image["blocks"], labels_of(image["text"])
+    base, length = boot_file.area_of(link, labels)
+    said = limit_told(link, [limit for limit in limits if not isinstance(link.get(limit[0]), str)]) or label_told(link, labels, image["name"])
+    if said is not None:
+        return said
+    fits = base + length <= size
+    return (None if fits else f"base and len are more than {size} together, the bytes of the memory of {quoted(link['to'])}")
+
+
+def label_told(link, labels, image):
+    """Why a label of a link isn't where an area may begin or end, if one isn't."""
+    for key in boot_file.LINK_PLACES:
+        word = link.get(key, 0)
+        if isinstance(word, str) and word not in labels:
+            return f"{key} = {quoted(word)}, and no line of image {quoted(image)} has this label"
+    return f"len = {quoted(link['len'])}, and this label stands before base" if boot_file.area_of(link, labels)[1] is None else None
 
 
 # The lines of an image's text
 
-DIRECTIVES = {".word": "v", ".byte": "b", ".zero": "z"}
-RANGES = {"n": ", must be 0 to 255", "b": ", must be 0 to 255", "z": ", must be 0 to 65536", "d": ", must be -128 to 127 whole words from the next instruction"}
-MISSING = {"d": "a label must stand where none stands", "v": "a number or label must stand where none stands"}
+DIRECTIVES = {".word": "v", ".byte": "b", ".zero": "z", ".align": "m", ".ascii": "t"}
+RANGES = {"m": ", must be 1 to 65536", "c": ", must be 0 to 255", "n": ", must be 0 to 255", "b": ", must be 0 to 255", "z": ", must be 0 to 65536", "d": ", must be -128 to 127 whole words from the next instruction"}
+NOTES = {"c": A_CALL, "t": A_TEXT}
+MISSING = {"t": "a text in quotation marks must stand where none stands", "c": "a number or call must stand where none stands", "d": "a label must stand where none stands", "v": "a number or label must stand where none stands"}
 
 
 def kinds_of(word):
@@ -170,18 +198,18 @@ def kinds_of(word):
 
 
 def places_of(lines):
-    """The labels of a text, its lines that have one of an earlier line, and the address of each line. A line whose word is none,
-    a bad label too, counts no bytes."""
-    labels, again, places, at = {}, set(), [], 0
+    """The labels of a text, its lines that have one of an earlier line, each with that line, and the address of each line. A line
+    whose word is none, a bad label too, counts no bytes."""
+    labels, firsts, again, places, at = {}, {}, {}, [], 0
     for number, line in enumerate(lines, 1):
         label, words, bad_label = parts_of(line)
         places.append(at)
         if label is not None:
             if label in labels:
-                again.add(number)
+                again[number] = firsts[label]
             else:
-                labels[label] = at
-        at += 0 if bad_label else size_of(words)
+                labels[label], firsts[label] = at, number
+        at += 0 if bad_label else size_of(words, at, text_of(line))
     return labels, again, places
 
 
@@ -196,10 +224,10 @@ def why_of(number, line, labels, again, at):
         return 7
     try:
         if words:
-            bytes_of(words, labels, at)
+            bytes_of(words, labels, at, text_of(line))
     except Wrong as wrong:
         return wrong.why
-    return 8 if at <= MOST_BYTES < at + size_of(words) else None
+    return 8 if at <= MOST_BYTES < at + size_of(words, at, text_of(line)) else None
 
 
 def line_before(data, text):
@@ -219,7 +247,9 @@ def text_told(image, data):
         if why is not None:
             said.append(f"rule 11: image {quoted(image['name'])}, line {number}: {line_told(why, line)}")
             if why == 3 and number_due(line):
-                said.append(A_NUMBER)
+                said.append(NOTES.get(last_kind(statement_of(line)[0]), A_NUMBER))
+            if why == 6:
+                said.append(f"    the label stands on line {again[number]} already")
             if before is not None:
                 said.append(f"    line {before + number} of the file")
     return said
@@ -260,10 +290,10 @@ def refused_operand(word, operands):
 def line_told(why, line):
     said = f": {quoted(line)}"
     if why == 1:
-        words = words_of(line)
-        first = words[0]
+        first = words_of(line)[0]
         bad = first.endswith(":") and not LABEL.fullmatch(first[:-1])
-        return "no such word" + said + (f": {quoted(first)}{A_LABEL}" if bad else "")
+        which = f"{quoted(first)}{A_LABEL}" if bad else f"{quoted(parts_of(line)[1][0])} is no instruction and no directive"
+        return f"no such word{said}: {which}"
     if why == 6:
         return "an earlier line has this label" + said
     if why == 8:
@@ -333,12 +363,25 @@ PLACES = {
 }
 
 
-def schedule_told(data, boot):
+def names_of(document):
+    """The names of a document's processes."""
+    return [process["name"] for process in document.get("process", [])]
+
+
+def first_told(data, boot, names):
+    """What is said of a refused schedule before the line of a status: the first line of what is said, and whose name stands there."""
+    told = schedule_told(data, boot, names)
+    return [line for line in told if line != SOME_DIGITS]
+
+
+def schedule_told(data, boot, names):
+    """What is said of a schedule for a system with processes of these names."""
     machines = len(boot.machines)
     try:
         directives = schedule_file.read_schedule(data, machines)
     except schedule_file.Refused as refused:
-        return bad_line_told(schedule_file.lines_of(data)[refused.line - 1], refused, machines)
+        line = schedule_file.lines_of(data)[refused.line - 1]
+        return bad_line_told(line, refused, machines) + name_told(line, refused, boot, names)
     counts = ", ".join(f"{word} {sum(one == word for one, _ in directives)}" for word in schedule_file.FORMS)
     return [f"schedule: {len(directives)} directives: {counts}"]
 
@@ -365,6 +408,24 @@ def bad_line_told(line, refused, machines):
     return [title + "a number is out of range, or no machine's" + said + which + PLACES[kind][1].format(last=machines - 1)]
 
 
+def name_told(line, refused, boot, names):
+    """Whose name stands where a process's number must, and which number that is."""
+    words = [word for word in line.replace(b"\t", b" ").split(b" ") if word]
+    wants_process = refused.why == 3 and words[0] in (b"migrate", b"calloff")
+    if not wants_process or is_number_of(words[1], len(boot.machines)):
+        return []
+    return [f"    {name} is {born.pid}" for name, born in zip(names, boot.processes) if name.encode() == words[1]]
+
+
+def is_number_of(word, machines):
+    """Whether a word is the number of a process."""
+    try:
+        operand_of("p", word, machines)
+    except schedule_file.Wrong:
+        return False
+    return True
+
+
 def operand_of(kind, word, machines):
     if kind == "p":
         return schedule_file.pid_of(word, machines)
@@ -388,5 +449,5 @@ def explain(data, schedule=None):
     try:
         schedule_file.read_schedule(lines, len(boot.machines))
     except schedule_file.Refused as refused:
-        return said + schedule_told(lines, boot), refused
-    return said + schedule_told(lines, boot), None
+        return said + schedule_told(lines, boot, names_of(document)), refused
+    return said + schedule_told(lines, boot, names_of(document)), None

@@ -7,6 +7,8 @@
     python3 outside/model/model.py drill --seed N --machines M --lines L [--trace]
     python3 outside/model/model.py drill --boot FILE --seed N --lines L [--trace | --schedule]
     python3 outside/model/model.py count --boot FILE --schedule FILE
+    python3 outside/model/model.py explore --boot FILE --depth N (--line TEXT | --stuck P..) [--move P=M].. [--calloff P=M]..
+                                           [--ticks K] [--repeats K] [--acks] [--most S]
 
 writes what the program writes, and ends with its status and its line on standard error. It was written from the rules
 alone (README.md beside this file says how, and what it was compared with)."""
@@ -23,7 +25,8 @@ import schedule as schedule_file
 from counting import Counts, quiet_line
 from drill import directives_of, drawn_boot, drill
 from ends import end_lines
-from explaining import explain, schedule_told
+from explaining import explain, first_told, names_of
+from exploring import Bounds, NotFound, OutOfRange, Undecided, explore, is_text, looks_like_move, looks_like_pid, move_in, pid_in
 from looking import Enough, look
 from onekernel import Refused as LabelsRefused
 from onekernel import check_labels
@@ -46,19 +49,29 @@ class Stop(Exception):
 
 def options_of(words, wanted, *flags):
     """What stands behind each of these options, each given once; a flag, which may be given once, has nothing behind it."""
-    found, rest = {}, list(words)
+    found = {}
+    for option, value in given_options(words, wanted, flags):
+        if option in found:
+            raise Stop(2, USAGE)
+        found[option] = value
+    if not all(option in found for option in wanted):
+        raise Stop(2, USAGE)
+    return found
+
+
+def given_options(words, named, flags):
+    """Each option, in the order given, with what stands behind it."""
+    found, rest = [], list(words)
     while rest and rest != ["--"]:  # which ends the options
         option, equals, value = rest.pop(0).partition("=")
-        if option in found or option not in wanted and (option not in flags or equals):
+        if option not in named and (option not in flags or equals):
             raise Stop(2, USAGE)
         if not equals and option not in flags:
             # a word that begins like an option is no value, but for a single dash
             if not rest or re.match(r"-.", rest[0], re.DOTALL):
                 raise Stop(2, USAGE)
             value = rest.pop(0)
-        found[option] = value
-    if not all(option in found for option in wanted):
-        raise Stop(2, USAGE)
+        found.append((option, value))
     return found
 
 
@@ -88,12 +101,17 @@ def boot_of(options):
         raise Stop(6, str(refused), explain(data)[0][:1]) from None
 
 
+def names_in(options):
+    """The names of the processes of a boot file that breaks no rule."""
+    return names_of(boot_file.document_of(bytes_of(options["--boot"], LONGEST_BOOT, "boot")))
+
+
 def directives_in(options, boot):
     data = bytes_of(options["--schedule"], LONGEST, "schedule")
     try:
         return schedule_file.read_schedule(data, len(boot.machines))
     except schedule_file.Refused as refused:
-        raise Stop(7, str(refused), schedule_told(data, boot)[:1]) from None
+        raise Stop(7, str(refused), first_told(data, boot, names_in(options))) from None
 
 
 def do_run(words, write):
@@ -181,7 +199,39 @@ def do_look(words, write):
     write(look(world, directives, most, last))
 
 
-COMMANDS = {"run": do_run, "check": do_check, "explain": do_explain, "drill": do_drill, "count": do_count, "look": do_look}
+def listed(options, name, is_one):
+    """What stands behind an option that may come up to sixteen times."""
+    values = [value for option, value in options if option == name]
+    if len(values) > 16 or not all(map(is_one, values)):
+        raise Stop(2, USAGE)
+    return values
+
+
+def do_explore(words, write):
+    once = ["--boot", "--depth", "--line", "--ticks", "--repeats", "--most"]
+    options = given_options(words, [*once, "--stuck", "--move", "--calloff"], ["--acks"])
+    names = [option for option, _ in options if option in [*once, "--acks"]]
+    found = dict(options)
+    if len(names) != len(set(names)) or "--boot" not in found or "--depth" not in found or ("--line" in found) == ("--stuck" in found):
+        raise Stop(2, USAGE)
+    stuck, moves, call_offs = listed(options, "--stuck", looks_like_pid), listed(options, "--move", looks_like_move), listed(options, "--calloff", looks_like_move)
+    text = found.get("--line")
+    if text is not None and not is_text(text):
+        raise Stop(2, USAGE)
+    depth, most = number_of(found["--depth"], 1, 64), number_of(found.get("--most", "1000000"), 1, 2**32 - 1)
+    ticks, repeats = number_of(found.get("--ticks", "0"), 0, 255), number_of(found.get("--repeats", "0"), 0, 255)
+    boot = boot_of(found)
+    try:
+        pids = [pid_in(word, len(boot.machines)) for word in stuck]
+        moves, call_offs = ([move_in(word, len(boot.machines)) for word in each] for each in (moves, call_offs))
+    except OutOfRange:
+        raise Stop(2, USAGE) from None
+    explore(boot, Bounds(depth, most, moves, call_offs, ticks, repeats, "--acks" in found), text, pids, write)
+
+
+COMMANDS = {
+    "run": do_run, "check": do_check, "explain": do_explain, "drill": do_drill, "count": do_count, "look": do_look, "explore": do_explore,
+}
 
 
 def run(words, write, before=None):
@@ -204,6 +254,10 @@ def run(words, write, before=None):
         return 9, str(worn)
     except (trace_check.Refused, LabelsRefused) as refused:
         return 10, str(refused)
+    except NotFound as not_found:
+        return 11, str(not_found)
+    except Undecided as undecided:
+        return 12, str(undecided)
     except OSError:
         return 5, "write fault"
 

@@ -1,29 +1,40 @@
 """What is said on standard error before a status's line: of words that ask for nothing, and of files (docs/FORMATS.md)."""
 
+from exploring import is_text, looks_like_move, looks_like_pid
+
 HELP = "help: ./demosmp help, docs/FORMATS.md"
 FORMS = {
     "run": "run --boot FILE --schedule FILE",
     "check": "check --boot FILE (--trace FILE | --labels FILE)",
-    "chart": "chart --boot FILE --schedule FILE",
+    "chart": "chart --boot FILE --schedule FILE [--from G] [--to G]",
     "explain": "explain --boot FILE [--schedule FILE | --trace FILE]",
     "count": "count --boot FILE --schedule FILE",
     "look": "look --boot FILE --schedule FILE --at G",
+    "explore": "explore --boot FILE --depth N (--line TEXT | --stuck P..) [--move P=M].. [--calloff P=M].. [--ticks K] [--repeats K] [--acks] [--most S]",
     "drill": "drill --seed N --lines L (--machines M [--trace] | --boot FILE [--trace | --schedule])",
 }
 # the options of each command in the order in which they are looked at, those without a value, and those that have to be there
 OPTIONS = {
     "run": ["--boot", "--schedule"],
     "check": ["--boot", "--trace", "--labels"],
-    "chart": ["--boot", "--schedule"],
+    "chart": ["--boot", "--schedule", "--from", "--to"],
     "explain": ["--boot", "--schedule", "--trace"],
     "count": ["--boot", "--schedule"],
     "look": ["--boot", "--schedule", "--at"],
+    "explore": ["--boot", "--depth", "--line", "--stuck", "--move", "--calloff", "--ticks", "--repeats", "--acks", "--most"],
     "drill": ["--seed", "--lines", "--machines", "--boot", "--trace", "--schedule"],
 }
-FLAGS = {"drill": ["--trace", "--schedule"]}
-NEEDED = {name: options for name, options in OPTIONS.items()} | {"check": ["--boot"], "explain": ["--boot"], "drill": ["--seed", "--lines"]}
-VALUES = {"--at": "G", "--seed": "N", "--lines": "L", "--machines": "M"}
-RANGES = {"--at": (0, 2**32 - 1), "--seed": (0, 2**32 - 1), "--lines": (1, 10_000), "--machines": (2, 16)}
+FLAGS = {"explore": ["--acks"], "drill": ["--trace", "--schedule"]}
+MANY = ["--stuck", "--move", "--calloff"]  # up to sixteen times
+NEEDED = {name: options for name, options in OPTIONS.items()} | {"check": ["--boot"], "chart": ["--boot", "--schedule"], "explain": ["--boot"], "explore": ["--boot", "--depth"], "drill": ["--seed", "--lines"]}
+VALUES = {"--at": "G", "--from": "G", "--to": "G", "--seed": "N", "--lines": "L", "--machines": "M", "--depth": "N"}
+RANGES = {"--at": (0, 2**32 - 1), "--from": (1, 2**32 - 1), "--to": (1, 2**32 - 1), "--seed": (0, 2**32 - 1), "--lines": (1, 10_000), "--machines": (2, 16), "--depth": (1, 64), "--ticks": (0, 255), "--repeats": (0, 255), "--most": (1, 2**32 - 1)}
+SHAPES = {
+    "--line": (is_text, "one to eight words with one space between"),
+    "--stuck": (looks_like_pid, "a process as in 0.3"),
+    "--move": (looks_like_move, "a process and a machine as in 0.3=1"),
+    "--calloff": (looks_like_move, "a process and a machine as in 0.3=1"),
+}
 
 
 def is_option(word):
@@ -41,7 +52,7 @@ def word_by_word(command, words):
         if not is_option(word):
             if waits is None:
                 return f"a word too many: {word}", values
-            values.setdefault(waits, word)
+            values.setdefault(waits, []).append(word)
             waits = None
             continue
         if waits is not None:
@@ -49,14 +60,15 @@ def word_by_word(command, words):
         option, equals, value = word.partition("=")
         if option not in OPTIONS[command]:
             return f"no such option: {word}", values
-        if any(named(other) == option for other in words[place + 1 :]):
-            return f"{option} twice", values
+        later = sum(named(other) == option for other in words[place + 1 :])
+        if later >= (16 if option in MANY else 1):
+            return f"{option} {'more than 16 times' if option in MANY else 'twice'}", values
         if option in FLAGS.get(command, []):
             if equals:
                 return f"{option} takes no value", values
-            values[option] = ""
+            values[option] = []
         elif equals:
-            values[option] = value
+            values.setdefault(option, []).append(value)
         else:
             waits = option
     return (None if waits is None else f"{waits} without a value"), values
@@ -64,15 +76,17 @@ def word_by_word(command, words):
 
 def bad_value(command, values):
     for option in OPTIONS[command]:
-        word = values.get(option)
-        if option not in RANGES or word is None:
-            continue
-        low, high = RANGES[option]
-        if word.isascii() and word.isdigit() and (word == "0" or word[0] != "0") and low <= int(word) <= high:
-            continue
-        if len(word) > 1 and word[0] == "0":
-            return f"{option} {word}: no 0 may stand in front"
-        return f"{option} {word}: {low} to {high}"
+        for word in values.get(option, []):
+            if option in SHAPES and not SHAPES[option][0](word):
+                return f"{option} {word}: {SHAPES[option][1]}"
+            if option not in RANGES:
+                continue
+            low, high = RANGES[option]
+            if word.isascii() and word.isdigit() and (word == "0" or word[0] != "0") and low <= int(word) <= high:
+                continue
+            if len(word) > 1 and word[0] == "0":
+                return f"{option} {word}: no 0 may stand in front"
+            return f"{option} {word}: {low} to {high}"
     return None
 
 
@@ -82,6 +96,12 @@ def clash(command, values):
         return "--trace and --labels: just one of them" if has("--trace") else "missing: --trace FILE or --labels FILE"
     if command == "explain" and has("--schedule") and has("--trace"):
         return "--schedule and --trace: one of them at most"
+    if command == "explore":
+        if has("--line") == has("--stuck"):
+            return "--line and --stuck: just one of them" if has("--line") else "missing: --line TEXT or --stuck P"
+        # so the words were right, and the boot file is at odds with a name
+        of = "--move or --calloff" if has("--line") else "--stuck, --move or --calloff"
+        return f"{of}: a process or machine that no schedule for this boot file can name"
     if command == "drill":
         if has("--machines") == has("--boot"):
             return "--machines and --boot: just one of them" if has("--boot") else "missing: --machines M or --boot FILE"

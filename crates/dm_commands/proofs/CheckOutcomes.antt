@@ -1,6 +1,6 @@
 -- Files come to one thing: why there is nothing to check is a function of them, where no read fails and memory is there.
 use Rattle.dm_commands.proofs.Names.{◌≡◌, ◌⊎◌, inl, inr, ℕ, List, length, refl, ap, sym, subst, ◌∙◌, cond, nat_lt, Option, Some, Boot, RoseOrFull, Status, Done, Usage, ReadFault, NoMemory, WriteFault, BootRefused, ScheduleRefused}
-use Rattle.dm_commands.proofs.Names.{TooLong, Worn, TraceRefused, LabelsRefused, HasTrace, NoTrace, most_trace, IsLonger, AfterBoot, IsWant, None}
+use Rattle.dm_commands.proofs.Names.{TooLong, Worn, TraceRefused, LabelsRefused, NotFound, Undecided, HasTrace, NoTrace, most_trace, IsLonger, AfterBoot, IsWant, None}
 use Rattle.dm_ending.specs.declared.status.Input.TheVariants as input
 use Rattle.dm_commands.proofs.Outcomes.{Files, boot_part, above, not_above, long_boot, refused_boot, said_boot, want_or_not}
 
@@ -43,6 +43,8 @@ no_trace files boot trace old new (TooLong input.Labels) quiet some h = absurd h
 no_trace files boot trace old new (Worn from to) quiet some h = absurd h
 no_trace files boot trace old new (TraceRefused line why) quiet some h = absurd h
 no_trace files boot trace old new (LabelsRefused line) quiet some h = absurd h
+no_trace files boot trace old new NotFound quiet some h = absurd h
+no_trace files boot trace old new Undecided quiet some h = absurd h
 
 -- a trace that is there leaves no other reason than want of memory
 pub only_want : (boot trace : List ℕ) (told : Option Files) (files : Files) (old new : ℕ) (b : Boot) (bytes : List ℕ) (t : Status) → told ≡ Some files → NoTrace told boot trace old new t → HasTrace (Some files) boot trace b bytes → (RoseOrFull old new → ⊥) → IsWant t

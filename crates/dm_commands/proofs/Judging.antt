@@ -1,5 +1,5 @@
 -- What `explain` promises of a trace.
-use Rattle.dm_commands.proofs.Names.{◌≡◌, ◌⊎◌, inl, inr, ℕ, List, refl, ap, sym, subst, ◌∙◌, Option, Some, None, TheNoMemory, Boot, BootRule, BootTold, Vec, Global, IsValid, World, Input, Status, Done, Usage, ReadFault, NoMemory, WriteFault, BootRefused, ScheduleRefused, TooLong, Worn, TraceRefused, LabelsRefused, RoseOrFull, HasTrace, NoTrace}
+use Rattle.dm_commands.proofs.Names.{◌≡◌, ◌⊎◌, inl, inr, ℕ, List, refl, ap, sym, subst, ◌∙◌, Option, Some, None, TheNoMemory, Boot, BootRule, BootTold, Vec, Global, IsValid, World, Input, Status, Done, Usage, ReadFault, NoMemory, WriteFault, BootRefused, ScheduleRefused, TooLong, Worn, TraceRefused, LabelsRefused, NotFound, Undecided, RoseOrFull, HasTrace, NoTrace}
 use Rattle.dm_commands.proofs.Names.{NoBoot, SaysBoot, HasFile, AfterBoot, IsLonger, TellsRead, Wrote, most_trace, rule_number}
 use Rattle.dm_ending.specs.declared.status.Input.TheVariants as input
 use Rattle.dm_explain.specs.declared.explain.BootTold.TheVariants as told_as
@@ -69,6 +69,8 @@ no_boot_judged files boot trace old new (ScheduleRefused line why) silent h = ab
 no_boot_judged files boot trace old new (Worn from to) silent h = absurd h
 no_boot_judged files boot trace old new (TraceRefused line why) silent h = absurd h
 no_boot_judged files boot trace old new (LabelsRefused line) silent h = absurd h
+no_boot_judged files boot trace old new NotFound silent h = absurd h
+no_boot_judged files boot trace old new Undecided silent h = absurd h
 
 -- no reason is that a word was refused
 pub judge_taken : {F K : Type 0} (m : TraceMeans) (boot trace : List ℕ) (a : Around F K) (world : Option World) (s : Status) → JudgeMeets m boot trace a world s → s ≡ Usage → ⊥

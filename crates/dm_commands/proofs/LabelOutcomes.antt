@@ -1,6 +1,6 @@
 -- What `check` promises of labels: why there is nothing to judge is a function of the files, where no read fails and memory is there.
 use Rattle.dm_commands.proofs.Names.{◌≡◌, ◌⊎◌, inl, inr, ℕ, List, length, refl, ap, sym, subst, ◌∙◌, cond, nat_lt, Option, Some, None, Boot, IsValid, World, RoseOrFull, Input, Status, Done, Usage, ReadFault, NoMemory, WriteFault, BootRefused, ScheduleRefused}
-use Rattle.dm_commands.proofs.Names.{TooLong, Worn, TraceRefused, LabelsRefused, IsLonger, AfterBoot, IsWant}
+use Rattle.dm_commands.proofs.Names.{TooLong, Worn, TraceRefused, LabelsRefused, NotFound, Undecided, IsLonger, AfterBoot, IsWant}
 use Rattle.dm_ending.specs.declared.status.Input.TheVariants as input
 use Rattle.dm_commands.proofs.Meeting.{all_read, unwritten}
 use Rattle.dm_commands.proofs.Outcomes.{Files, boot_part, above, not_above, long_boot, refused_boot, said_boot, want_or_not}
@@ -48,6 +48,8 @@ no_labels files boot labels old new (TooLong input.Labels) quiet some h = long_l
 no_labels files boot labels old new (Worn from to) quiet some h = absurd h
 no_labels files boot labels old new (TraceRefused line why) quiet some h = absurd h
 no_labels files boot labels old new (LabelsRefused line) quiet some h = absurd h
+no_labels files boot labels old new NotFound quiet some h = absurd h
+no_labels files boot labels old new Undecided quiet some h = absurd h
 
 -- labels that are there leave no other reason than want of memory
 pub only_want : (boot labels : List ℕ) (told : Option Files) (files : Files) (old new : ℕ) (b : Boot) (bytes : List ℕ) (t : Status) → told ≡ Some files → NoLabels told boot labels old new t → HasLabels (Some files) boot labels b bytes → (RoseOrFull old new → ⊥) → IsWant t

@@ -13,6 +13,8 @@ pub mod ExplainOutcomes
 pub mod Judging
 pub mod OwnDrilling
 pub mod Looking
+mod Written
+pub mod Exploring
 pub mod Obeying
 pub mod Silent
 pub mod Saying

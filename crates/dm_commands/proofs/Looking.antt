@@ -1,5 +1,5 @@
 -- What the status of the command `look` says, in other terms, and that it says nothing of reads and words.
-use Rattle.dm_commands.proofs.Names.{◌≡◌, ℕ, List, OnErr, OnOk, Option, Some, None, Result, Ok, Err, Failed, appended, IsCutShort, Boot, Directive, World, Status, Done, Usage, ReadFault, NoMemory, WriteFault, BootRefused, ScheduleRefused, TooLong, Worn, TraceRefused, LabelsRefused}
+use Rattle.dm_commands.proofs.Names.{◌≡◌, ℕ, List, OnErr, OnOk, Option, Some, None, Result, Ok, Err, Failed, appended, IsCutShort, Boot, Directive, World, Status, Done, Usage, ReadFault, NoMemory, WriteFault, BootRefused, ScheduleRefused, TooLong, Worn, TraceRefused, LabelsRefused, NotFound, Undecided}
 use Rattle.dm_run.proofs.Carried.{Carries}
 use Rattle.dm_run.specs.Notion.{Notion}
 use Rattle.dm_look.proofs.Carried.{Sees, seen_by, wears_by}
@@ -20,6 +20,8 @@ look_said r q Holds Held most b ds before after world (TooLong i) c k h = absurd
 look_said r q Holds Held most b ds before after world (Worn from to) c k h = record { worn = wears_by r q b ds most from to c h.worn; nothing = h.nothing }
 look_said r q Holds Held most b ds before after world (TraceRefused line why) c k h = absurd h
 look_said r q Holds Held most b ds before after world (LabelsRefused line) c k h = absurd h
+look_said r q Holds Held most b ds before after world NotFound c k h = absurd h
+look_said r q Holds Held most b ds before after world Undecided c k h = absurd h
 
 -- what is seen was written, unless the sink failed
 pub seen_says : {A : Type 0} (r : Notion) (Holds : Holding r) (most : ℕ) (b : Boot) (ds : List Directive) (text : List ℕ) (before after : Option (List ℕ)) (wrote : Result A Failed) → IsSeen r Holds b ds most text → OnOk wrote (after ≡ appended before text) → OnErr wrote (IsCutShort before text after)

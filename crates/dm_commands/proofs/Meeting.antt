@@ -1,5 +1,5 @@
 -- What calls promise of the shelf and of the sink, put together.
-use Rattle.dm_commands.proofs.Names.{◌≡◌, inl, inr, ℕ, List, ap, sym, subst, ◌∙◌, arith, refl, false≢true, Result, Ok, Err, IsErr, IsErrAnd, Boot, Input, Status, Done, Usage, ReadFault, NoMemory, WriteFault, BootRefused, ScheduleRefused, TooLong, Worn, TraceRefused, LabelsRefused}
+use Rattle.dm_commands.proofs.Names.{◌≡◌, inl, inr, ℕ, List, ap, sym, subst, ◌∙◌, arith, refl, false≢true, Result, Ok, Err, IfErr, IsErr, IsErrAnd, Boot, Input, Status, Done, Usage, ReadFault, NoMemory, WriteFault, BootRefused, ScheduleRefused, TooLong, Worn, TraceRefused, LabelsRefused, NotFound, Undecided}
 use Rattle.dm_commands.proofs.Names.{SaysBoot, BlamesShelf, BlamesSink, Option, None, Some}
 use Rattle.dm_commands.specs.Asked.{Alone, Asks, AsksBoth, Both, Named, Nothing, perhaps_both}
 use Rattle.dm_commands.specs.Meets.{MeetsShelf, MeetsSink, status_so_far}
@@ -10,6 +10,10 @@ use Rattle.dm_ending.specs.declared.status.Input.TheVariants as input
 pub passed_on : {A : Type 0} (P : Status → Type 0) (r : Result A Status) (e : Status) → IsErr r × IsErrAnd r (λ y. y ≡ e) → P e → P (status_so_far r)
 passed_on P (Ok x) e h p = absurd (false≢true h.0)
 passed_on P (Err y) e h p = subst P (sym h.1) p
+
+pub err_passed : {A : Type 0} (P : Status → Type 0) (r : Result A Status) (e : Status) → IsErr r × IsErrAnd r (λ y. y ≡ e) → P e → IfErr r P
+err_passed P (Ok x) e h p = absurd (false≢true h.0)
+err_passed P (Err y) e h p = subst P (sym h.1) p
 
 -- a boot file was to be read and another behind it, and the boot file gave nothing
 pub first_read : {F : Type 0} (f : ShelfAround F) (boot : List ℕ) (which : Input) (name : List ℕ) (s : Status) → MeetsShelf (Alone input.Boot boot) f s → MeetsShelf (Both boot which name) f s
@@ -46,6 +50,8 @@ blames_nobody old new (TooLong i) e never = e
 blames_nobody old new (Worn from to) e never = e
 blames_nobody old new (TraceRefused line why) e never = e
 blames_nobody old new (LabelsRefused line) e never = e
+blames_nobody old new NotFound e never = e
+blames_nobody old new Undecided e never = e
 
 -- files were read, and what the call ends with blames none of these reads
 pub all_read : {F : Type 0} (names : Named) (f : ShelfAround F) (s : Status) → MeetsShelf names f Done → ((i : Input) → s ≡ ReadFault i → ⊥) → MeetsShelf names f s
@@ -70,6 +76,8 @@ sink_stays old new (TooLong i) e never = e
 sink_stays old new (Worn from to) e never = e
 sink_stays old new (TraceRefused line why) e never = e
 sink_stays old new (LabelsRefused line) e never = e
+sink_stays old new NotFound e never = e
+sink_stays old new Undecided e never = e
 
 -- no write failed, and what the call ends with blames none
 pub all_written : {K : Type 0} (k : SinkAround K) (s : Status) → k.faults k.new ≡ k.faults k.old → (s ≡ WriteFault → ⊥) → MeetsSink k s

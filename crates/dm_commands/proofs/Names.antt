@@ -5,7 +5,7 @@ pub use Rattle.std.proofs.lemmas.Bool.Decides.{nat_tests}
 pub use Rattle.std.proofs.lemmas.List.{drop-drop, length-take-le, take-append-drop}
 pub use Rattle.std.proofs.lemmas.List.Elements.{All-cons, All-head, All-nil, All-tail}
 pub use Rattle.std.specs.List.{All}
-pub use Rattle.std.specs.Prelude.{◌==◌, ◌&&◌, if◌then◌else◌, nat_le, nat_lt, map, option_map, OnErr, OnOk, Vec, ⊤}
+pub use Rattle.std.specs.Prelude.{◌==◌, ◌&&◌, if◌then◌else◌, nat_le, nat_lt, map, option_map, IfErr, OnErr, OnOk, Vec, ⊤}
 pub use Rattle.std.specs.Result.{IsErr, IsErrAnd}
 pub use Rattle.std.specs.declared.alloc.Global.{Global}
 pub use Rattle.dm_memory.specs.declared.NoMemory.{NoMemory as TheNoMemory}
@@ -36,7 +36,7 @@ pub use Rattle.dm_ending.specs.Ended.{ended_with}
 pub use Rattle.dm_ending.specs.Status.{BlamesShelf, BlamesSink, IsWant}
 pub use Rattle.dm_ending.specs.declared.status.Input.{Input}
 pub use Rattle.dm_ending.specs.declared.status.Status.{Status}
-pub use Rattle.dm_ending.specs.declared.status.Status.TheVariants.{BootRefused, Done, NoMemory, ReadFault, ScheduleRefused, TooLong, TraceRefused, LabelsRefused, Usage, Worn, WriteFault}
+pub use Rattle.dm_ending.specs.declared.status.Status.TheVariants.{BootRefused, Done, NoMemory, ReadFault, ScheduleRefused, TooLong, TraceRefused, LabelsRefused, NotFound, Undecided, Usage, Worn, WriteFault}
 pub use Rattle.dm_ending.specs.declared.stop.Stop.{Stop}
 pub use Rattle.dm_run.specs.Appended.{IsCutShort}
 pub use Rattle.dm_run.specs.Coming.{Blames}

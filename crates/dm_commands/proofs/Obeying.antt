@@ -1,11 +1,12 @@
 -- What the program promises, whatever its words ask for.
 use Rattle.dm_commands.proofs.Names.{◌≡◌, inl, inr, ℕ, List, refl, ap, sym, subst, ◌∙◌, Option, Some, None, TheNoMemory, Boot, Directive, World, Input, Status, Done, Usage, ReadFault, NoMemory, WriteFault, NoFiles, NoTrace, NoInputs, NoBoot, Drill as TheDrill}
 use Rattle.dm_commands.proofs.Names.{Request, Chart, Check, Count, Explain, Judge, Run, WordsError, status_of_no, Look, CheckLabels}
-use Rattle.dm_words.specs.Request.{Drill, OwnDrill}
+use Rattle.dm_words.specs.Request.{Drill, Explore, OwnDrill}
 use Rattle.dm_words.specs.declared.words.WordsError.TheVariants as why
 use Rattle.dm_ending.specs.declared.status.Input.TheVariants as input
 use Rattle.dm_commands.proofs.Checking as checking
 use Rattle.dm_commands.proofs.ExplainOutcomes as explaining
+use Rattle.dm_commands.proofs.Exploring.{explore_never}
 use Rattle.dm_commands.proofs.Judging.{lack_judged, never_judges}
 use Rattle.dm_commands.proofs.LabelOutcomes.{labels_never}
 use Rattle.dm_commands.proofs.Meeting.{asks_nothing, unread, unwritten}
@@ -22,7 +23,7 @@ use Rattle.dm_commands.specs.OwnDrills.{OwnSays}
 use Rattle.dm_commands.specs.Outside.{Around, SinkAround, Untouched}
 use Rattle.dm_run.specs.Notion.{Notion}
 use Rattle.dm_commands.specs.Runs.{RunMeets, RunSaying, RunSays}
-use Rattle.dm_commands.specs.Charts.{ChartSays}
+use Rattle.dm_commands.specs.Charts.{ChartSays, part_of}
 use Rattle.dm_words.proofs.Ranges.{Fits}
 
 -- want of memory says nothing of a drill
@@ -49,8 +50,8 @@ lacks_meets t (Some (Check boot trace)) a world lack quiet fits h nothing =
     checking.never_meets (CheckSays t.trace) boot trace a world (NoMemory lack) tt (unread (Both boot input.Trace trace) a.shelf (NoMemory lack) h.unread (asks_nothing (Both boot input.Trace trace) a.shelf h.unread nothing) (no_read lack)) h.unwritten h.no_world
 lacks_meets t (Some (CheckLabels boot labels)) a world lack quiet fits h nothing =
     labels_never boot labels a world (NoMemory lack) tt (unread (Both boot input.Labels labels) a.shelf (NoMemory lack) h.unread (asks_nothing (Both boot input.Labels labels) a.shelf h.unread nothing) (no_read lack)) h.unwritten h.no_world
-lacks_meets t (Some (Chart boot schedule)) a world lack quiet fits h nothing = record {
-  as_run = running.never_meets (ChartSays t.run) boot schedule a world (NoMemory lack) tt (unread (Both boot input.Schedule schedule) a.shelf (NoMemory lack) h.unread (asks_nothing (Both boot input.Schedule schedule) a.shelf h.unread nothing) (no_read lack)) h.unwritten h.no_world;
+lacks_meets t (Some (Chart boot schedule first last)) a world lack quiet fits h nothing = record {
+  as_run = running.never_meets (ChartSays (part_of first last) t.run) boot schedule a world (NoMemory lack) tt (unread (Both boot input.Schedule schedule) a.shelf (NoMemory lack) h.unread (asks_nothing (Both boot input.Schedule schedule) a.shelf h.unread nothing) (no_read lack)) h.unwritten h.no_world;
   no_world = h.no_world;
 }
 lacks_meets t (Some (Explain boot schedule)) a world lack quiet fits h nothing =
@@ -65,6 +66,8 @@ lacks_meets t (Some (Look boot schedule groups)) a world lack quiet fits h nothi
   as_run = running.never_meets (LookSays t.run t.holds groups) boot schedule a world (NoMemory lack) tt (unread (Both boot input.Schedule schedule) a.shelf (NoMemory lack) h.unread (asks_nothing (Both boot input.Schedule schedule) a.shelf h.unread nothing) (no_read lack)) h.unwritten h.no_world;
   no_world = h.no_world;
 }
+lacks_meets t (Some (Explore boot line e)) a world lack quiet fits h nothing =
+    explore_never t.answer boot line e a world (NoMemory lack) fits tt (unread (Alone input.Boot boot) a.shelf (NoMemory lack) h.unread (asks_nothing (Alone input.Boot boot) a.shelf h.unread nothing) (no_read lack)) h.unwritten h.no_world
 lacks_meets t (Some (Drill d)) a world lack quiet fits h nothing = record {
   within = fits;
   meets = record {
@@ -81,6 +84,11 @@ pub no_request : {F K : Type 0} (t : Terms) (r : Option Request) (a : Around F K
     → CommandMeets t r a world (status_of_no reason)
 no_request t r a world why.Usage quiet fits h nothing usage = subst (λ x. CommandMeets t x a world Usage) (sym (usage refl)) (record { why = inl refl; untouched = h })
 no_request t r a world (why.NoMemory lack) quiet fits h nothing usage = lacks_meets t r a world lack quiet fits h nothing
+
+-- words are refused as such
+pub words_usage : (reason : WordsError) → status_of_no reason ≡ Usage → reason ≡ why.Usage
+words_usage why.Usage e = refl
+words_usage (why.NoMemory lack) e = cc
 
 -- the words were not refused
 pub run_taken : {F K : Type 0} (Says : RunSaying) (boot schedule : List ℕ) (a : Around F K) (world : Option World) (s : Status) → ((b : Boot) (ds : List Directive) (before after : Option (List ℕ)) (w : Option World) → Says b ds before after w Usage → ⊥) → RunMeets Says boot schedule a world s → s ≡ Usage → ⊥
@@ -117,11 +125,12 @@ command_met t None a world s h = record {
 command_met t (Some (Run boot schedule)) a world s h = h.met
 command_met t (Some (Check boot trace)) a world s h = h.met
 command_met t (Some (CheckLabels boot labels)) a world s h = h.met
-command_met t (Some (Chart boot schedule)) a world s h = h.as_run.met
+command_met t (Some (Chart boot schedule first last)) a world s h = h.as_run.met
 command_met t (Some (Explain boot schedule)) a world s h = h.met
 command_met t (Some (Judge boot trace)) a world s h = h.met
 command_met t (Some (Count boot schedule)) a world s h = h.met
 command_met t (Some (Look boot schedule groups)) a world s h = h.as_run.met
+command_met t (Some (Explore boot line e)) a world s h = h.met
 command_met t (Some (Drill d)) a world s h = record { shelf = h.shelf; sink = h.meets.sink }
 command_met t (Some (OwnDrill boot d)) a world s h = h.met
 

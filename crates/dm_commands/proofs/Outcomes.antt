@@ -1,6 +1,6 @@
 -- Files say one thing: why there is no run is a function of them, where no read fails and memory is there.
 use Rattle.dm_commands.proofs.Names.{◌≡◌, ◌⊎◌, inl, inr, ◌≤◌, ◌<◌, ℕ, true, false, List, length, refl, ap, ap₂, sym, subst, ◌∙◌, cond, nat_lt, arith, nat_tests, Option, Some, Result, Ok, Err, Boot, BootRule, rule_number, Directive}
-use Rattle.dm_commands.proofs.Names.{Schedule, Accepted, Refused, RoseOrFull, Status, Done, Usage, ReadFault, NoMemory, WriteFault, BootRefused, ScheduleRefused, TooLong, Worn, TraceRefused, LabelsRefused, AcceptsFiles, AfterBoot, HasFile, NoFiles}
+use Rattle.dm_commands.proofs.Names.{Schedule, Accepted, Refused, RoseOrFull, Status, Done, Usage, ReadFault, NoMemory, WriteFault, BootRefused, ScheduleRefused, TooLong, Worn, TraceRefused, LabelsRefused, NotFound, Undecided, AcceptsFiles, AfterBoot, HasFile, NoFiles}
 use Rattle.dm_commands.proofs.Names.{RefusesBoot, RefusesSchedule, SaysBoot, SaysDirectives, most_boot, most_schedule, IsLonger, IsWant, None}
 use Rattle.dm_boot.specs.Boot.{boot_of}
 use Rattle.dm_schedule.specs.Schedule.{directives_of, number_of_fault}
@@ -110,6 +110,8 @@ no_files files boot schedule old new (TooLong input.Labels) quiet some h = absur
 no_files files boot schedule old new (Worn from to) quiet some h = absurd h
 no_files files boot schedule old new (TraceRefused line why) quiet some h = absurd h
 no_files files boot schedule old new (LabelsRefused line) quiet some h = absurd h
+no_files files boot schedule old new NotFound quiet some h = absurd h
+no_files files boot schedule old new Undecided quiet some h = absurd h
 
 -- a status is want of memory, or isn't
 pub want_or_not : (s : Status) → IsWant s ⊎ (IsWant s → ⊥)
@@ -124,6 +126,8 @@ want_or_not (TooLong i) = inr (λ w. let e : TooLong i ≡ NoMemory w.0 = w.1 in
 want_or_not (Worn from to) = inr (λ w. let e : Worn from to ≡ NoMemory w.0 = w.1 in cc)
 want_or_not (TraceRefused line why) = inr (λ w. let e : TraceRefused line why ≡ NoMemory w.0 = w.1 in cc)
 want_or_not (LabelsRefused line) = inr (λ w. let e : LabelsRefused line ≡ NoMemory w.0 = w.1 in cc)
+want_or_not NotFound = inr (λ w. let e : NotFound ≡ NoMemory w.0 = w.1 in cc)
+want_or_not Undecided = inr (λ w. let e : Undecided ≡ NoMemory w.0 = w.1 in cc)
 
 -- two reasons why there is no run are one, unless one of them is want of memory
 pub one_reason : (boot schedule : List ℕ) (told : Option Files) (files : Files) (old new : ℕ) (s t : Status) → told ≡ Some files → NoFiles told boot schedule old new t → NoFiles (Some files) boot schedule old new s → (IsWant s → ⊥) → (RoseOrFull old new → ⊥) → (t ≡ s) ⊎ IsWant t

@@ -54,7 +54,7 @@ only_lack boot told files old new b t is h says quiet = elim (want_or_not t) [
 ]
 
 -- two reasons why there is no system are one, unless one of them is want of memory
-one_lack : (boot : List ℕ) (told : Option Files) (files : Files) (old new : ℕ) (s t : Status) → told ≡ Some files → NoBoot told boot old new t → NoBoot (Some files) boot old new s → (IsWant s → ⊥) → (RoseOrFull old new → ⊥) → (t ≡ s) ⊎ IsWant t
+pub one_lack : (boot : List ℕ) (told : Option Files) (files : Files) (old new : ℕ) (s t : Status) → told ≡ Some files → NoBoot told boot old new t → NoBoot (Some files) boot old new s → (IsWant s → ⊥) → (RoseOrFull old new → ⊥) → (t ≡ s) ⊎ IsWant t
 one_lack boot told files old new s t is h g some quiet = elim (want_or_not t) [
   | inl want ↦ inr want
   | inr other ↦ inl (sym (no_boot files boot old new t quiet other (subst (λ f. NoBoot f boot old new t) is h)) ∙ no_boot files boot old new s quiet some g)

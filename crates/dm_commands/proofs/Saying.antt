@@ -1,7 +1,9 @@
 -- What is said of a boot file or a schedule that is refused, and that nothing is said otherwise.
 use Rattle.dm_commands.proofs.Names.{◌≡◌, ℕ, List, [], length, refl, ap, sym, subst, ◌∙◌, Option, None, Some, Result, Ok, Err, Boot, BootRule, BootTold, LineFault, Accepted, Refused, Status, Done, Usage}
-use Rattle.dm_commands.proofs.Names.{ReadFault, NoMemory, TheNoMemory, WriteFault, BootRefused, ScheduleRefused, TooLong, Worn, TraceRefused, LabelsRefused, NoBoot, NoDirectives, SaysBoot, Request, Run, Check, CheckLabels, Chart, Explain, Judge, Count, Look, WordsError, status_of_no}
-use Rattle.dm_words.specs.Request.{Drill, OwnDrill}
+use Rattle.dm_commands.proofs.Names.{ReadFault, NoMemory, TheNoMemory, WriteFault, BootRefused, ScheduleRefused, TooLong, Worn, TraceRefused, LabelsRefused, NotFound, Undecided, NoBoot, NoDirectives, SaysBoot, Request, Run, Check, CheckLabels, Chart, Explain, Judge, Count, Look, WordsError, status_of_no}
+use Rattle.dm_commands.proofs.Names.{IsLonger, NoFiles, RefusesSchedule, RoseOrFull, most_schedule}
+use Rattle.dm_ending.specs.declared.status.Input.TheVariants as input
+use Rattle.dm_words.specs.Request.{Drill, Explore, OwnDrill}
 use Rattle.dm_words.specs.declared.words.WordsError.TheVariants as words_error
 use Rattle.dm_boot.specs.Boot.{boot_of}
 use Rattle.dm_schedule.specs.Schedule.{directives_of}
@@ -11,6 +13,7 @@ use Rattle.dm_explain.specs.declared.explain.BootTold.TheVariants as boot_told
 use Rattle.dm_explain.specs.declared.explain.ScheduleTold.{ScheduleTold}
 use Rattle.dm_explain.specs.declared.explain.ScheduleTold.TheVariants as schedule_told
 use Rattle.dm_commands.proofs.Outcomes.{Files}
+use Rattle.dm_commands.specs.Inputs.{SaysFile}
 use Rattle.dm_commands.specs.Firsts.{FirstOfBoot, FirstOfFiles, FirstOfSchedule, SaysFirst, boot_text, schedule_text}
 
 -- the rule and the place of a refusal
@@ -44,27 +47,58 @@ boot_first files boot schedule old new (TooLong i) said none h = h
 boot_first files boot schedule old new (Worn from to) said none h = h
 boot_first files boot schedule old new (TraceRefused line why) said none h = h
 boot_first files boot schedule old new (LabelsRefused line) said none h = h
+boot_first files boot schedule old new NotFound said none h = h
+boot_first files boot schedule old new Undecided said none h = h
 
 -- it says a system, and the schedule is at fault
-schedule_at : (files : Option Files) (boot schedule : List ℕ) (b : Boot) (old new : ℕ) (s : Status) (said : List ℕ) → SaysBoot files boot b → NoDirectives files schedule (length b.machines) old new s → FirstOfSchedule files schedule (length b.machines) s said → FirstOfFiles files boot schedule s said
-schedule_at files boot schedule b old new Done said says none h = h
-schedule_at files boot schedule b old new Usage said says none h = h
-schedule_at files boot schedule b old new (ReadFault i) said says none h = h
-schedule_at files boot schedule b old new (NoMemory lack) said says none h = h
-schedule_at files boot schedule b old new WriteFault said says none h = h
-schedule_at files boot schedule b old new (BootRefused number place) said says none h = absurd none
-schedule_at files boot schedule b old new (ScheduleRefused line why) said says none h = record { b = b; says = says; holds = h }
-schedule_at files boot schedule b old new (TooLong i) said says none h = h
-schedule_at files boot schedule b old new (Worn from to) said says none h = h
-schedule_at files boot schedule b old new (TraceRefused line why) said says none h = h
-schedule_at files boot schedule b old new (LabelsRefused line) said says none h = h
+schedule_at : (files : Option Files) (boot schedule file : List ℕ) (b : Boot) (old new : ℕ) (s : Status) (said : List ℕ) → SaysFile files boot file b → NoDirectives files schedule (length b.machines) old new s → FirstOfSchedule files schedule file b s said → FirstOfFiles files boot schedule s said
+schedule_at files boot schedule file b old new Done said says none h = h
+schedule_at files boot schedule file b old new Usage said says none h = h
+schedule_at files boot schedule file b old new (ReadFault i) said says none h = h
+schedule_at files boot schedule file b old new (NoMemory lack) said says none h = h
+schedule_at files boot schedule file b old new WriteFault said says none h = h
+schedule_at files boot schedule file b old new (BootRefused number place) said says none h = absurd none
+schedule_at files boot schedule file b old new (ScheduleRefused line why) said says none h = record { file = file; system = b; says = says; told = h }
+schedule_at files boot schedule file b old new (TooLong i) said says none h = h
+schedule_at files boot schedule file b old new (Worn from to) said says none h = h
+schedule_at files boot schedule file b old new (TraceRefused line why) said says none h = h
+schedule_at files boot schedule file b old new (LabelsRefused line) said says none h = h
+schedule_at files boot schedule file b old new NotFound said says none h = h
+schedule_at files boot schedule file b old new Undecided said says none h = h
 
-pub schedule_first : (files between : Option Files) (boot schedule : List ℕ) (b : Boot) (machines old new : ℕ) (s : Status) (said : List ℕ) → SaysBoot files boot b → between ≡ files → machines ≡ length b.machines
-    → NoDirectives between schedule machines old new s → FirstOfSchedule between schedule machines s said → FirstOfFiles files boot schedule s said
-schedule_first files between boot schedule b machines old new s said says same count none h =
-    schedule_at files boot schedule b old new s said says
-    (subst (λ (n : ℕ). NoDirectives files schedule n old new s) count (subst (λ (f : Option Files). NoDirectives f schedule machines old new s) same none))
-    (subst (λ (n : ℕ). FirstOfSchedule files schedule n s said) count (subst (λ (f : Option Files). FirstOfSchedule f schedule machines s said) same h))
+pub schedule_first : (files between : Option Files) (boot schedule file : List ℕ) (b : Boot) (old new : ℕ) (s : Status) (said : List ℕ) → SaysFile files boot file b → between ≡ files
+    → NoDirectives between schedule (length b.machines) old new s → FirstOfSchedule between schedule file b s said → FirstOfFiles files boot schedule s said
+schedule_first files between boot schedule file b old new s said says same none h =
+    schedule_at files boot schedule file b old new s said says
+    (subst (λ (f : Option Files). NoDirectives f schedule (length b.machines) old new s) same none) (subst (λ (f : Option Files). FirstOfSchedule f schedule file b s said) same h)
+
+-- the file that says a system, whichever bytes it has
+pub some_file : (files : Option Files) (boot file : List ℕ) (b : Boot) → SaysFile files boot file b → SaysBoot files boot b
+some_file files boot file b h = record { bytes = file; file = h.file; says = h.says }
+
+-- so there is no run
+pub schedule_none : (files between : Option Files) (boot schedule : List ℕ) (b : Boot) (old mid new : ℕ) (s : Status) → SaysBoot files boot b → between ≡ files → mid ≡ old
+    → NoDirectives between schedule (length b.machines) mid new s → NoFiles files boot schedule old new s
+schedule_none files between boot schedule b old mid new Done says is same h = absurd h
+schedule_none files between boot schedule b old mid new Usage says is same h = absurd h
+schedule_none files between boot schedule b old mid new (ReadFault input.Boot) says is same h = absurd h
+schedule_none files between boot schedule b old mid new (ReadFault input.Schedule) says is same h = record { b = b; says = says; holds = subst (λ (n : ℕ). RoseOrFull n new) same h }
+schedule_none files between boot schedule b old mid new (ReadFault input.Trace) says is same h = absurd h
+schedule_none files between boot schedule b old mid new (ReadFault input.Labels) says is same h = absurd h
+schedule_none files between boot schedule b old mid new (NoMemory lack) says is same h = tt
+schedule_none files between boot schedule b old mid new WriteFault says is same h = absurd h
+schedule_none files between boot schedule b old mid new (BootRefused number place) says is same h = absurd h
+schedule_none files between boot schedule b old mid new (ScheduleRefused line why) says is same h =
+    record { b = b; says = says; holds = subst (λ (f : Option Files). RefusesSchedule f schedule (length b.machines) line why) is h }
+schedule_none files between boot schedule b old mid new (TooLong input.Boot) says is same h = absurd h
+schedule_none files between boot schedule b old mid new (TooLong input.Schedule) says is same h = record { b = b; says = says; holds = subst (λ (f : Option Files). IsLonger f schedule most_schedule) is h }
+schedule_none files between boot schedule b old mid new (TooLong input.Trace) says is same h = absurd h
+schedule_none files between boot schedule b old mid new (TooLong input.Labels) says is same h = absurd h
+schedule_none files between boot schedule b old mid new (Worn from to) says is same h = absurd h
+schedule_none files between boot schedule b old mid new (TraceRefused line why) says is same h = absurd h
+schedule_none files between boot schedule b old mid new (LabelsRefused line) says is same h = absurd h
+schedule_none files between boot schedule b old mid new NotFound says is same h = absurd h
+schedule_none files between boot schedule b old mid new Undecided says is same h = absurd h
 
 -- nothing is said with a status of which something holds that holds of no refused file
 pub silent_boot : (Holds : Status → Type 0) (files : Option Files) (boot : List ℕ) (s : Status) (said : List ℕ) → ((number place : ℕ) → Holds (BootRefused number place) → ⊥) → Holds s → said ≡ [] → FirstOfBoot files boot s said
@@ -79,6 +113,8 @@ silent_boot Holds files boot (TooLong i) said no_boot h e = e
 silent_boot Holds files boot (Worn from to) said no_boot h e = e
 silent_boot Holds files boot (TraceRefused line why) said no_boot h e = e
 silent_boot Holds files boot (LabelsRefused line) said no_boot h e = e
+silent_boot Holds files boot NotFound said no_boot h e = e
+silent_boot Holds files boot Undecided said no_boot h e = e
 
 pub silent_files : (Holds : Status → Type 0) (files : Option Files) (boot schedule : List ℕ) (s : Status) (said : List ℕ) → ((number place : ℕ) → Holds (BootRefused number place) → ⊥) → ((line why : ℕ) → Holds (ScheduleRefused line why) → ⊥) → Holds s → said ≡ [] → FirstOfFiles files boot schedule s said
 silent_files Holds files boot schedule Done said no_boot no_schedule h e = e
@@ -92,17 +128,20 @@ silent_files Holds files boot schedule (TooLong i) said no_boot no_schedule h e 
 silent_files Holds files boot schedule (Worn from to) said no_boot no_schedule h e = e
 silent_files Holds files boot schedule (TraceRefused line why) said no_boot no_schedule h e = e
 silent_files Holds files boot schedule (LabelsRefused line) said no_boot no_schedule h e = e
+silent_files Holds files boot schedule NotFound said no_boot no_schedule h e = e
+silent_files Holds files boot schedule Undecided said no_boot no_schedule h e = e
 
 pub silent_first : (Holds : Status → Type 0) (r : Option Request) (files : Option Files) (s : Status) (said : List ℕ) → ((number place : ℕ) → Holds (BootRefused number place) → ⊥) → ((line why : ℕ) → Holds (ScheduleRefused line why) → ⊥) → Holds s → said ≡ [] → SaysFirst r files s said
 silent_first Holds None files s said no_boot no_schedule h e = e
 silent_first Holds (Some (Run boot schedule)) files s said no_boot no_schedule h e = silent_files Holds files boot schedule s said no_boot no_schedule h e
 silent_first Holds (Some (Check boot trace)) files s said no_boot no_schedule h e = silent_boot Holds files boot s said no_boot h e
 silent_first Holds (Some (CheckLabels boot labels)) files s said no_boot no_schedule h e = silent_boot Holds files boot s said no_boot h e
-silent_first Holds (Some (Chart boot schedule)) files s said no_boot no_schedule h e = silent_files Holds files boot schedule s said no_boot no_schedule h e
+silent_first Holds (Some (Chart boot schedule first last)) files s said no_boot no_schedule h e = silent_files Holds files boot schedule s said no_boot no_schedule h e
 silent_first Holds (Some (Explain boot schedule)) files s said no_boot no_schedule h e = e
 silent_first Holds (Some (Judge boot trace)) files s said no_boot no_schedule h e = e
 silent_first Holds (Some (Count boot schedule)) files s said no_boot no_schedule h e = silent_files Holds files boot schedule s said no_boot no_schedule h e
 silent_first Holds (Some (Look boot schedule groups)) files s said no_boot no_schedule h e = silent_files Holds files boot schedule s said no_boot no_schedule h e
+silent_first Holds (Some (Explore boot line x)) files s said no_boot no_schedule h e = silent_boot Holds files boot s said no_boot h e
 silent_first Holds (Some (Drill d)) files s said no_boot no_schedule h e = e
 silent_first Holds (Some (OwnDrill boot d)) files s said no_boot no_schedule h e = silent_boot Holds files boot s said no_boot h e
 

@@ -10,12 +10,13 @@ use Rattle.dm_ending.specs.declared.status.Status.{Status}
 use Rattle.dm_ending.specs.declared.status.Status.TheVariants.{Usage}
 use Rattle.dm_ending.specs.Status.{IsWant}
 use Rattle.dm_words.specs.DrillWords.{IsWithin}
-use Rattle.dm_words.specs.Request.{Request, Chart, Check, Count, Drill, Explain, Judge, OwnDrill, Run, Look, CheckLabels}
+use Rattle.dm_words.specs.Request.{Request, Chart, Check, Count, Drill, Explain, Explore, Judge, OwnDrill, Run, Look, CheckLabels}
 use Rattle.dm_draw.specs.declared.drill.Drill.{Drill as TheDrill}
 use Rattle.dm_commands.specs.Asked.{Alone, Both, Named, Nothing, perhaps_both}
-use Rattle.dm_commands.specs.Charts.{ChartMeets, ChartSays}
+use Rattle.dm_commands.specs.Charts.{ChartMeets, ChartSays, part_of}
 use Rattle.dm_commands.specs.Checks.{CheckMeets, CheckSays, TraceMeans}
 use Rattle.dm_commands.specs.Drills.{CountSays, DrillMeets, DrilledSays}
+use Rattle.dm_commands.specs.Explores.{AnswerMeans, ExploreMeets}
 use Rattle.dm_commands.specs.Explains.{ExplainMeets}
 use Rattle.dm_commands.specs.Judges.{JudgeMeets}
 use Rattle.dm_commands.specs.Looks.{LookMeets, LookSays}
@@ -31,6 +32,8 @@ pub record Terms : Type 1 where
   -- what is in the messages, where a run has come
   pub holds : Holding run
   pub trace : TraceMeans
+  -- what comes of exploring
+  pub answer : AnswerMeans
 
 -- the words ask for nothing: they are refused, unless memory lacks
 pub record RefusesWords {F K : Type 0} (a : Around F K) (world : Option World) (s : Status) : Type 0 where
@@ -49,11 +52,12 @@ CommandMeets t None a world s = RefusesWords a world s
 CommandMeets t (Some (Run boot schedule)) a world s = RunMeets (RunSays t.run) boot schedule a world s
 CommandMeets t (Some (Check boot trace)) a world s = CheckMeets (CheckSays t.trace) boot trace a world s
 CommandMeets t (Some (CheckLabels boot labels)) a world s = LabelsMeet boot labels a world s
-CommandMeets t (Some (Chart boot schedule)) a world s = ChartMeets (ChartSays t.run) boot schedule a world s
+CommandMeets t (Some (Chart boot schedule first last)) a world s = ChartMeets (ChartSays (part_of first last) t.run) boot schedule a world s
 CommandMeets t (Some (Explain boot schedule)) a world s = ExplainMeets boot schedule a world s
 CommandMeets t (Some (Judge boot trace)) a world s = JudgeMeets t.trace boot trace a world s
 CommandMeets t (Some (Count boot schedule)) a world s = RunMeets (CountSays t.run) boot schedule a world s
 CommandMeets t (Some (Look boot schedule groups)) a world s = LookMeets (LookSays t.run t.holds groups) boot schedule a world s
+CommandMeets t (Some (Explore boot line exploration)) a world s = ExploreMeets t.answer boot line exploration a world s
 CommandMeets t (Some (Drill drill)) a world s = Drills t.run drill a world s
 CommandMeets t (Some (OwnDrill boot drill)) a world s = OwnMeets (OwnSays t.run drill) boot drill a world s
 
@@ -63,10 +67,11 @@ named_in None = Nothing
 named_in (Some (Run boot schedule)) = Both boot input.Schedule schedule
 named_in (Some (Check boot trace)) = Both boot input.Trace trace
 named_in (Some (CheckLabels boot labels)) = Both boot input.Labels labels
-named_in (Some (Chart boot schedule)) = Both boot input.Schedule schedule
+named_in (Some (Chart boot schedule first last)) = Both boot input.Schedule schedule
 named_in (Some (Explain boot schedule)) = perhaps_both boot schedule
 named_in (Some (Judge boot trace)) = Both boot input.Trace trace
 named_in (Some (Count boot schedule)) = Both boot input.Schedule schedule
 named_in (Some (Look boot schedule groups)) = Both boot input.Schedule schedule
+named_in (Some (Explore boot line exploration)) = Alone input.Boot boot
 named_in (Some (Drill drill)) = Nothing
 named_in (Some (OwnDrill boot drill)) = Alone input.Boot boot

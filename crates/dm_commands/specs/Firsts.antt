@@ -1,18 +1,24 @@
--- What is said before the line of the status of a boot file or a schedule that is refused: what `explain` says first of it.
-use Rattle.std.specs.Prelude.{◌≡◌, ℕ, ◌+◌, List, [], take}
+-- What is said before the line of the status of a boot file or a schedule that is refused: what `explain` says first of it, and
+-- whose name stands where a process's number must.
+use Rattle.std.specs.Prelude.{◌≡◌, ℕ, ◌+◌, List, [], ◌++◌, length, take}
 use Rattle.std.specs.List.{position}
 use Rattle.std.specs.declared.option.Option.{Option}
 use Rattle.std.specs.declared.option.Option.TheVariants.{None, Some}
 use Rattle.dm_reading.specs.Lines.{ends_line}
+use Rattle.dm_onekernel.specs.declared.boot.Boot.{Boot}
+use Rattle.dm_schedule.specs.declared.LineFault.{LineFault}
+use Rattle.dm_schedule.specs.Schedule.{Refused, directives_of, number_of_fault}
 use Rattle.dm_explain.specs.declared.explain.BootTold.{BootTold}
 use Rattle.dm_explain.specs.declared.explain.BootTold.TheVariants as boot_told
 use Rattle.dm_explain.specs.declared.explain.ScheduleTold.{ScheduleTold}
 use Rattle.dm_explain.specs.declared.explain.ScheduleTold.TheVariants as schedule_told
+use Rattle.dm_explain.specs.Naming.{name_told}
+use Rattle.dm_explain.specs.Schedules.{line_told}
 use Rattle.dm_ending.specs.declared.status.Status.{Status}
-use Rattle.dm_ending.specs.declared.status.Status.TheVariants.{BootRefused, ScheduleRefused}
-use Rattle.dm_words.specs.Request.{Request, Chart, Check, Count, Drill, Explain, Judge, OwnDrill, Run, Look, CheckLabels}
-use Rattle.dm_commands.specs.Explains.{ExplainsBroken, TellsSchedule}
-use Rattle.dm_commands.specs.Inputs.{AfterBoot}
+use Rattle.dm_ending.specs.declared.status.Status.TheVariants.{Done, Usage, ReadFault, NoMemory, WriteFault, BootRefused, ScheduleRefused, TooLong, Worn, TraceRefused, LabelsRefused, NotFound, Undecided}
+use Rattle.dm_words.specs.Request.{Request, Chart, Check, Count, Drill, Explain, Explore, Judge, OwnDrill, Run, Look, CheckLabels}
+use Rattle.dm_commands.specs.Explains.{ExplainsBroken}
+use Rattle.dm_commands.specs.Inputs.{HasFile, SaysFile, most_schedule}
 
 -- the first line of a text, with its line feed
 abbrev pub up_to : List ℕ → Option ℕ → List ℕ
@@ -41,23 +47,68 @@ pub record FirstTold (Says : List ℕ → Type 0) (said : List ℕ) : Type 0 whe
 abbrev pub FirstOfBroken : Option (List ℕ → Option (List ℕ)) → List ℕ → ℕ → ℕ → List ℕ → Type 0
 FirstOfBroken files name number place said = FirstTold (λ text. ExplainsBroken files name number place text) said
 
--- the schedule of this name is refused at this line, for so many machines
-abbrev pub FirstOfLine : Option (List ℕ → Option (List ℕ)) → List ℕ → ℕ → ℕ → ℕ → List ℕ → Type 0
-FirstOfLine files name machines line why said = FirstTold (λ text. TellsSchedule files name machines [] (ScheduleRefused line why) text) said
+-- the schedule of this name is refused at this line, for the system of a boot file of these bytes: the first line that is said of
+-- that, and whose name stands where a process's number must
+pub record FirstOfLine (files : Option (List ℕ → Option (List ℕ))) (name file : List ℕ) (b : Boot) (line why : ℕ) (said : List ℕ) : Type 0 where
+  pub bytes : List ℕ
+  pub is : HasFile files name most_schedule bytes
+  pub fault : LineFault
+  pub refused : directives_of bytes (length b.machines) ≡ Refused line fault
+  pub why_is : why ≡ number_of_fault fault
+  pub first : said ≡ first_line (line_told bytes (length b.machines) line fault) ++ name_told file b bytes line fault
 
--- what is said of a boot file alone, of a schedule for so many machines, and of both: nothing where none is refused
+-- the same of the names of both files
+pub record FirstOfSecond (files : Option (List ℕ → Option (List ℕ))) (boot schedule : List ℕ) (line why : ℕ) (said : List ℕ) : Type 0 where
+  pub file : List ℕ
+  pub system : Boot
+  pub says : SaysFile files boot file system
+  pub told : FirstOfLine files schedule file system line why said
+
+-- what is said of a boot file alone, of a schedule for a system, and of both: nothing where none is refused
 abbrev pub FirstOfBoot : Option (List ℕ → Option (List ℕ)) → List ℕ → Status → List ℕ → Type 0
+FirstOfBoot files name Done said = said ≡ []
+FirstOfBoot files name Usage said = said ≡ []
+FirstOfBoot files name (ReadFault i) said = said ≡ []
+FirstOfBoot files name (NoMemory lack) said = said ≡ []
+FirstOfBoot files name WriteFault said = said ≡ []
 FirstOfBoot files name (BootRefused number place) said = FirstOfBroken files name number place said
-FirstOfBoot files name _ said = said ≡ []
+FirstOfBoot files name (ScheduleRefused line why) said = said ≡ []
+FirstOfBoot files name (TooLong i) said = said ≡ []
+FirstOfBoot files name (Worn from to) said = said ≡ []
+FirstOfBoot files name (TraceRefused line why) said = said ≡ []
+FirstOfBoot files name (LabelsRefused line) said = said ≡ []
+FirstOfBoot files name NotFound said = said ≡ []
+FirstOfBoot files name Undecided said = said ≡ []
 
-abbrev pub FirstOfSchedule : Option (List ℕ → Option (List ℕ)) → List ℕ → ℕ → Status → List ℕ → Type 0
-FirstOfSchedule files name machines (ScheduleRefused line why) said = FirstOfLine files name machines line why said
-FirstOfSchedule files name machines _ said = said ≡ []
+abbrev pub FirstOfSchedule : Option (List ℕ → Option (List ℕ)) → List ℕ → List ℕ → Boot → Status → List ℕ → Type 0
+FirstOfSchedule files name file b Done said = said ≡ []
+FirstOfSchedule files name file b Usage said = said ≡ []
+FirstOfSchedule files name file b (ReadFault i) said = said ≡ []
+FirstOfSchedule files name file b (NoMemory lack) said = said ≡ []
+FirstOfSchedule files name file b WriteFault said = said ≡ []
+FirstOfSchedule files name file b (BootRefused number place) said = said ≡ []
+FirstOfSchedule files name file b (ScheduleRefused line why) said = FirstOfLine files name file b line why said
+FirstOfSchedule files name file b (TooLong i) said = said ≡ []
+FirstOfSchedule files name file b (Worn from to) said = said ≡ []
+FirstOfSchedule files name file b (TraceRefused line why) said = said ≡ []
+FirstOfSchedule files name file b (LabelsRefused line) said = said ≡ []
+FirstOfSchedule files name file b NotFound said = said ≡ []
+FirstOfSchedule files name file b Undecided said = said ≡ []
 
 abbrev pub FirstOfFiles : Option (List ℕ → Option (List ℕ)) → List ℕ → List ℕ → Status → List ℕ → Type 0
+FirstOfFiles files boot schedule Done said = said ≡ []
+FirstOfFiles files boot schedule Usage said = said ≡ []
+FirstOfFiles files boot schedule (ReadFault i) said = said ≡ []
+FirstOfFiles files boot schedule (NoMemory lack) said = said ≡ []
+FirstOfFiles files boot schedule WriteFault said = said ≡ []
 FirstOfFiles files boot schedule (BootRefused number place) said = FirstOfBroken files boot number place said
-FirstOfFiles files boot schedule (ScheduleRefused line why) said = AfterBoot files boot (λ machines. FirstOfLine files schedule machines line why said)
-FirstOfFiles files boot schedule _ said = said ≡ []
+FirstOfFiles files boot schedule (ScheduleRefused line why) said = FirstOfSecond files boot schedule line why said
+FirstOfFiles files boot schedule (TooLong i) said = said ≡ []
+FirstOfFiles files boot schedule (Worn from to) said = said ≡ []
+FirstOfFiles files boot schedule (TraceRefused line why) said = said ≡ []
+FirstOfFiles files boot schedule (LabelsRefused line) said = said ≡ []
+FirstOfFiles files boot schedule NotFound said = said ≡ []
+FirstOfFiles files boot schedule Undecided said = said ≡ []
 
 -- a row a command: `explain` writes it all to standard output
 abbrev pub SaysFirst : Option Request → Option (List ℕ → Option (List ℕ)) → Status → List ℕ → Type 0
@@ -65,10 +116,11 @@ SaysFirst None files s said = said ≡ []
 SaysFirst (Some (Run boot schedule)) files s said = FirstOfFiles files boot schedule s said
 SaysFirst (Some (Check boot trace)) files s said = FirstOfBoot files boot s said
 SaysFirst (Some (CheckLabels boot labels)) files s said = FirstOfBoot files boot s said
-SaysFirst (Some (Chart boot schedule)) files s said = FirstOfFiles files boot schedule s said
+SaysFirst (Some (Chart boot schedule first last)) files s said = FirstOfFiles files boot schedule s said
 SaysFirst (Some (Explain boot schedule)) files s said = said ≡ []
 SaysFirst (Some (Judge boot trace)) files s said = said ≡ []
 SaysFirst (Some (Count boot schedule)) files s said = FirstOfFiles files boot schedule s said
 SaysFirst (Some (Look boot schedule groups)) files s said = FirstOfFiles files boot schedule s said
+SaysFirst (Some (Explore boot line exploration)) files s said = FirstOfBoot files boot s said
 SaysFirst (Some (Drill drill)) files s said = said ≡ []
 SaysFirst (Some (OwnDrill boot drill)) files s said = FirstOfBoot files boot s said

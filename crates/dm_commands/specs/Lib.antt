@@ -9,6 +9,7 @@ pub mod LabelChecks
 pub mod Drills
 pub mod OwnDrills
 pub mod Charts
+pub mod Explores
 pub mod Looks
 pub mod Explains
 pub mod Judges

@@ -1,19 +1,21 @@
 //! The command `explain`: it says what a boot file and a schedule say, or what is wrong with them.
-ghost use Rattle.std.specs.Prelude.{◌≡◌, IfErr, IfOk, None, option_map};
+ghost use Rattle.std.specs.Prelude.{◌≡◌, IfErr, IfOk, None, length, option_map};
 ghost use Rattle.dm_ending.specs.declared.status.Input.TheVariants as input_;
 ghost use Rattle.dm_commands.specs.Asked.{Alone, perhaps_both};
-ghost use Rattle.dm_commands.specs.Explains.{ExplainMeets, NoInputs, TellsFiles, TellsLines, TellsRead, TellsSchedule, Wrote};
+ghost use Rattle.dm_commands.specs.Explains.{ExplainMeets, NoInputs, TellsFile, TellsFiles, TellsLines, TellsRead, TellsSchedule, Wrote};
 ghost use Rattle.dm_commands.specs.Inputs.{NoBoot, NoDirectives};
 ghost use Rattle.dm_commands.specs.Judges.{IsUntold};
 ghost use Rattle.dm_commands.specs.Meets.{MeetsShelf, MeetsSink, status_so_far};
 ghost use Rattle.dm_commands.specs.Outside.{around, shelf_around, sink_around};
 ghost use Rattle.dm_explain.specs.Explained.{IsToldValid};
+ghost use Rattle.dm_onekernel.specs.Boot.{IsValid};
 
 use crate::inputs::MOST_BOOT;
 use crate::read::{ReadError, read_file};
 use dm_ending::status::{Input, Status};
-use dm_explain::{BootTold, ScheduleTold, explain_boot, explain_schedule};
+use dm_explain::{BootTold, ScheduleTold, explain_boot, explain_name, explain_schedule};
 use dm_memory::{NoMemory, extend_from_slice};
+use dm_onekernel::Boot;
 use dm_outside::{Shelf, Sink};
 use dm_run::write_all;
 use dm_schedule::MOST_SCHEDULE;
@@ -69,23 +71,33 @@ fn tell_files<F: Shelf>(
     ensures shelf { MeetsShelf (perhaps_both boot.now (option_map (λ s. s.now) schedule.entry))
         (shelf_around F.asked F.told F.faults F.last_failed shelf.old shelf.new) (status_so_far result) }
 {
-    match tell_boot(alloc, boot, shelf) {
-        Ok(BootTold::Refused { rule, place, text }) => Ok(Told {
+    let FileTold { file, told } = match tell_file(alloc, boot, shelf) {
+        Ok(told) => told,
+        Err(status) => return Err(status),
+    };
+    match told {
+        BootTold::Refused { rule, place, text } => Ok(Told {
             due: Status::BootRefused {
                 number: rule.number(),
                 place,
             },
             text,
         }),
-        Ok(BootTold::System { boot: system, text }) => match schedule {
-            Some(name) => tell_schedule(alloc, name, system.machines.len() as u8, text, shelf),
+        BootTold::System { boot: system, text } => match schedule {
+            Some(name) => tell_schedule(alloc, name, file.as_slice(), &system, text, shelf),
             None => Ok(Told {
                 due: Status::Done,
                 text,
             }),
         },
-        Err(status) => Err(status),
     }
+}
+
+/// The bytes of a boot file, and what is said of them.
+#[derive(Drop)]
+struct FileTold {
+    file: Vec<u8>,
+    told: BootTold,
 }
 
 /// What is said of the boot file of this name.
@@ -101,9 +113,24 @@ pub(crate) fn tell_boot<F: Shelf>(
     ensures shelf { MeetsShelf (Alone input_.Boot name.now)
         (shelf_around F.asked F.told F.faults F.last_failed shelf.old shelf.new) (status_so_far result) }
 {
+    match tell_file(alloc, name, shelf) {
+        Ok(told) => Ok(told.told),
+        Err(status) => Err(status),
+    }
+}
+
+/// The same with the bytes of the boot file.
+fn tell_file<F: Shelf>(alloc: Global, name: &str, shelf: &mut F) -> Result<FileTold, Status>
+    ensures tells { IfOk result (λ t. TellsFile (F.told shelf.old) name.now t.file.items t.told) }
+    ensures valid { IfOk result (λ t. IsToldValid t.told) }
+    ensures none { IfErr result (λ s. NoBoot (F.told shelf.old) name.now (F.faults shelf.old) (F.faults shelf.new) s) }
+    ensures untold { IfErr result IsUntold }
+    ensures shelf { MeetsShelf (Alone input_.Boot name.now)
+        (shelf_around F.asked F.told F.faults F.last_failed shelf.old shelf.new) (status_so_far result) }
+{
     match read_file(alloc, shelf, name, MOST_BOOT) {
-        Ok(bytes) => match explain_boot(alloc, bytes.as_slice()) {
-            Ok(told) => Ok(told),
+        Ok(file) => match explain_boot(alloc, file.as_slice()) {
+            Ok(told) => Ok(FileTold { file, told }),
             Err(no) => Err(Status::NoMemory(no)),
         },
         Err(ReadError::Fault) => Err(Status::ReadFault(Input::Boot)),
@@ -112,21 +139,23 @@ pub(crate) fn tell_boot<F: Shelf>(
     }
 }
 
-/// What is said of the schedule of this name, for so many machines, behind what is said of the boot file.
+/// What is said of the schedule of this name, for the system of a boot file of these bytes, behind what is said of that.
 fn tell_schedule<F: Shelf>(
     alloc: Global,
     name: &str,
-    machines: u8,
+    file: &[u8],
+    system: &Boot,
     first: Vec<u8>,
     shelf: &mut F,
 ) -> Result<Told, Status>
-    ensures tells { IfOk result (λ t. TellsSchedule (F.told shelf.old) name.now machines first.items t.due t.text.items) }
-    ensures none { IfErr result (λ s. NoDirectives (F.told shelf.old) name.now machines (F.faults shelf.old) (F.faults shelf.new) s) }
+    requires { IsValid system.now }
+    ensures tells { IfOk result (λ t. TellsSchedule (F.told shelf.old) name.now file.now system.now first.items t.due t.text.items) }
+    ensures none { IfErr result (λ s. NoDirectives (F.told shelf.old) name.now (length system.now.machines) (F.faults shelf.old) (F.faults shelf.new) s) }
     ensures shelf { MeetsShelf (Alone input_.Schedule name.now)
         (shelf_around F.asked F.told F.faults F.last_failed shelf.old shelf.new) (status_so_far result) }
 {
     match read_file(alloc, shelf, name, MOST_SCHEDULE) {
-        Ok(bytes) => match tell_lines(alloc, bytes.as_slice(), machines, first) {
+        Ok(bytes) => match tell_lines(alloc, file, system, bytes.as_slice(), first) {
             Ok(told) => Ok(told),
             Err(no) => Err(Status::NoMemory(no)),
         },
@@ -136,12 +165,19 @@ fn tell_schedule<F: Shelf>(
     }
 }
 
-/// What is said of a schedule, for so many machines, behind what is said of the boot file.
-fn tell_lines(alloc: Global, bytes: &[u8], machines: u8, first: Vec<u8>) -> Result<Told, NoMemory>
-    ensures { IfOk result (λ t. TellsLines bytes.now machines first.items t.due t.text.items) }
+/// What is said of a schedule, for the system of a boot file of these bytes, behind what is said of that.
+fn tell_lines(
+    alloc: Global,
+    file: &[u8],
+    system: &Boot,
+    bytes: &[u8],
+    first: Vec<u8>,
+) -> Result<Told, NoMemory>
+    requires { IsValid system.now }
+    ensures { IfOk result (λ t. TellsLines file.now system.now bytes.now first.items t.due t.text.items) }
 {
     let mut text = first;
-    match explain_schedule(alloc, bytes, machines)? {
+    match explain_schedule(alloc, bytes, system.machines.len() as u8)? {
         ScheduleTold::Directives { text: more, .. } => {
             extend_from_slice(&mut text, more.as_slice())?;
             Ok(Told {
@@ -154,7 +190,10 @@ fn tell_lines(alloc: Global, bytes: &[u8], machines: u8, first: Vec<u8>) -> Resu
             fault,
             text: more,
         } => {
-            extend_from_slice(&mut text, more.as_slice())?;
+            let mut said = more;
+            let name = explain_name(alloc, file, system, bytes, line, fault)?;
+            extend_from_slice(&mut said, name.as_slice())?;
+            extend_from_slice(&mut text, said.as_slice())?;
             Ok(Told {
                 due: Status::ScheduleRefused {
                     line,

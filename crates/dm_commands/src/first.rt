@@ -1,16 +1,19 @@
 //! What is said of a boot file or a schedule that is refused, before the line of the status: what `explain` says first of it.
-ghost use Rattle.std.specs.Prelude.{◌≡◌, Err, IfOk};
+ghost use Rattle.std.specs.Prelude.{◌≡◌, ◌++◌, Err, IfOk, length};
 ghost use Rattle.std.specs.List.{position};
 ghost use Rattle.dm_boot.specs.Boot.{boot_of};
 ghost use Rattle.dm_commands.specs.Firsts.{FirstTold, boot_text, first_line, schedule_text};
 ghost use Rattle.dm_explain.specs.Explained.{TellsRefused};
+ghost use Rattle.dm_explain.specs.Naming.{name_told};
 ghost use Rattle.dm_explain.specs.Schedules.{line_told};
+ghost use Rattle.dm_onekernel.specs.Boot.{IsValid};
 ghost use Rattle.dm_reading.specs.Lines.{ends_line};
 ghost use Rattle.dm_schedule.specs.Schedule.{Refused, directives_of};
 
 use dm_boot::BootRule;
-use dm_explain::{BootTold, ScheduleTold, explain_boot, explain_schedule};
-use dm_memory::NoMemory;
+use dm_explain::{BootTold, ScheduleTold, explain_boot, explain_name, explain_schedule};
+use dm_memory::{NoMemory, extend_from_slice};
+use dm_onekernel::Boot;
 use dm_schedule::LineFault;
 use std::alloc::Global;
 
@@ -28,8 +31,30 @@ pub(crate) fn first_of_boot(
     Ok(first_line(boot_text(told)))
 }
 
-/// The first line of what is said of a schedule for so many machines that is refused at this line.
+/// The first line of what is said of a schedule that is refused at this line, for the system of a boot file of these bytes, and whose
+/// name stands where a process's number must.
 pub(crate) fn first_of_schedule(
+    alloc: Global,
+    file: &[u8],
+    boot: &Boot,
+    bytes: &[u8],
+    line: u64,
+    fault: LineFault,
+) -> Result<Vec<u8>, NoMemory>
+    requires valid { IsValid boot.now }
+    requires refused { directives_of bytes.now (length boot.now.machines) ≡ Refused line fault }
+    ensures { IfOk result (λ said. said.items ≡
+        first_line (line_told bytes.now (length boot.now.machines) line fault) ++ name_told file.now boot.now bytes.now line fault) }
+{
+    let machines = boot.machines.len() as u8;
+    let mut said = first_of_line(alloc, bytes, machines, line, fault)?;
+    let name = explain_name(alloc, file, boot, bytes, line, fault)?;
+    extend_from_slice(&mut said, name.as_slice())?;
+    Ok(said)
+}
+
+/// The first line of what is said of a schedule for so many machines that is refused at this line.
+fn first_of_line(
     alloc: Global,
     bytes: &[u8],
     machines: u8,

@@ -3,15 +3,17 @@ ghost use Rattle.std.specs.Prelude.{◌≡◌, map};
 ghost use Rattle.dm_run.specs.Went.{RunsGo};
 ghost use Rattle.dm_words.specs.Words.{IsTaken, request_of};
 ghost use Rattle.dm_commands.specs.Commands.{CommandMeets};
+ghost use Rattle.dm_commands.specs.Explores.{RefusesTaken};
 ghost use Rattle.dm_commands.specs.Firsts.{SaysFirst};
 ghost use Rattle.dm_commands.specs.Outside.{around, shelf_around, sink_around};
 ghost use Rattle.dm_commands.specs.Says.{of_world};
 
-use crate::chart::chart_files;
+use crate::chart::{chart_files, part_of};
 use crate::check::check_files;
 use crate::count::count_files;
 use crate::drill::drill;
 use crate::explain::explain_files;
+use crate::explore::explore_file;
 use crate::judge::judge_files;
 use crate::label_check::check_label_files;
 use crate::look::look_files;
@@ -38,7 +40,7 @@ pub fn do_words<F: Shelf, K: Sink>(
         (around (shelf_around F.asked F.told F.faults F.last_failed shelf.old shelf.new)
         (sink_around K.told K.faults K.last_failed out.old out.new)) world.new result }
     ensures said { SaysFirst (request_of (map (λ w. w.now) words.now)) (F.told shelf.old) result said.new.items }
-    ensures refused { result ≡ Status.Usage → IsTaken (map (λ w. w.now) words.now) → ⊥ }
+    ensures refused { result ≡ Status.Usage → IsTaken (map (λ w. w.now) words.now) → RefusesTaken (F.told shelf.old) (request_of (map (λ w. w.now) words.now)) }
 {
     *world = None;
     *said = Vec::new(alloc);
@@ -50,9 +52,17 @@ pub fn do_words<F: Shelf, K: Sink>(
         Ok(Request::CheckLabels { boot, labels }) => {
             check_label_files(alloc, boot, labels, shelf, out, said)
         }
-        Ok(Request::Chart { boot, schedule }) => chart_files(
-            alloc, boot, schedule, shelf, out, said,
-        ),
+        Ok(
+            Request::Chart {
+                boot,
+                schedule,
+                first,
+                last,
+            },
+        ) => {
+            let part = part_of(first, last);
+            chart_files(alloc, boot, schedule, part, shelf, out, said)
+        }
         Ok(Request::Explain { boot, schedule }) => {
             explain_files(alloc, boot, schedule, shelf, out)
         }
@@ -67,6 +77,13 @@ pub fn do_words<F: Shelf, K: Sink>(
                 groups,
             },
         ) => look_files(alloc, boot, schedule, groups, shelf, out, said),
+        Ok(
+            Request::Explore {
+                boot,
+                line,
+                exploration,
+            },
+        ) => explore_file(alloc, boot, line, &exploration, shelf, out, said),
         Ok(Request::Drill(drawn)) => drill(alloc, &drawn, out, world),
         Ok(Request::OwnDrill { boot, drill: drawn }) => {
             drill_file(alloc, boot, &drawn, shelf, out, world, said)

@@ -6,7 +6,7 @@ use Rattle.dm_memory.specs.declared.NoMemory.{NoMemory as TheNoMemory}
 use Rattle.dm_ending.specs.declared.status.Input.{Input}
 use Rattle.dm_ending.specs.declared.status.Input.TheVariants.{Boot, Schedule, Trace, Labels}
 use Rattle.dm_ending.specs.declared.status.Status.{Status}
-use Rattle.dm_ending.specs.declared.status.Status.TheVariants.{Done, Usage, ReadFault, NoMemory, WriteFault, BootRefused, ScheduleRefused, TooLong, Worn, TraceRefused, LabelsRefused}
+use Rattle.dm_ending.specs.declared.status.Status.TheVariants.{Done, Usage, ReadFault, NoMemory, WriteFault, BootRefused, ScheduleRefused, TooLong, Worn, TraceRefused, LabelsRefused, NotFound, Undecided}
 
 -- the number that the program ends with
 abbrev pub code_of : Status → ℕ
@@ -21,6 +21,8 @@ code_of (TooLong input) = 8
 code_of (Worn from to) = 9
 code_of (TraceRefused line why) = 10
 code_of (LabelsRefused line) = 10
+code_of NotFound = 11
+code_of Undecided = 12
 
 -- the name of a file that is too long
 abbrev pub input_text : Input → List ℕ
@@ -42,6 +44,8 @@ text_of_status (TooLong input) = codes "too long: " ++ input_text input
 text_of_status (Worn from to) = codes "worn: " ++ decimal from ++ codes " to " ++ decimal to
 text_of_status (TraceRefused line why) = codes "trace refused: line " ++ decimal line ++ codes ", why " ++ decimal why
 text_of_status (LabelsRefused line) = codes "labels refused: line " ++ decimal line
+text_of_status NotFound = codes "not found"
+text_of_status Undecided = codes "undecided"
 
 -- a text that isn't empty, with a line feed
 abbrev pub as_line : List ℕ → List ℕ

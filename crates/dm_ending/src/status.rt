@@ -48,6 +48,10 @@ pub enum Status {
     TraceRefused { line: u64, why: u8 },
     /// The first line of the labels, counted from 1, that is no label, or whose label is no step.
     LabelsRefused { line: u64 },
+    /// Nothing is found within the bounds.
+    NotFound,
+    /// More was to be tried than may be.
+    Undecided,
 }
 
 impl Status {
@@ -67,6 +71,8 @@ impl Status {
             Status::Worn { .. } => 9,
             Status::TraceRefused { .. } => 10,
             Status::LabelsRefused { .. } => 10,
+            Status::NotFound => 11,
+            Status::Undecided => 12,
         }
     }
 }
@@ -114,6 +120,8 @@ pub fn status_text(status: &Status) -> ArrayString<LONGEST_LINE>
         Status::Worn { from, to } => worn(from, to),
         Status::TraceRefused { line, why } => trace_refused(line, why),
         Status::LabelsRefused { line } => labels_refused(line),
+        Status::NotFound => words("not found"),
+        Status::Undecided => words("undecided"),
     }
 }
 

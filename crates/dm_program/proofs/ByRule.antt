@@ -5,6 +5,9 @@ use Rattle.dm_draw.proofs.Within.{boot_machines, directive_fits, directives_fit}
 use Rattle.dm_draw.specs.Directives.{directive_drawn}
 use Rattle.dm_words.proofs.Ranges.{Fits}
 use Rattle.dm_commands.proofs.Carrying.{CarriesTerms, carried}
+use Rattle.dm_explorelaws.proofs.ByRule.Answered.{answered}
+use Rattle.dm_commands.proofs.Exploring.{asked_for}
+use Rattle.dm_commands.specs.Explores.{bounds_for, question_for}
 use Rattle.dm_commands.proofs.Drills.{all_for}
 use Rattle.dm_commands.proofs.Obeying.{command_met, lacks_meets}
 use Rattle.dm_commands.proofs.Silent.{silent}
@@ -29,6 +32,7 @@ by_rule = record {
   looks = sees;
   drills = λ d within. carries (boot_of_machines d.machines) (directives_of_drill d) (boot_valid d.machines within.least within.most) (drill_for d within);
   traces = carries_traces;
+  answers = λ b line e valid within a named means. (means.0, answered b (bounds_for e) (question_for line e) a valid (asked_for (length b.machines) e named within) means.0 means.1);
 }
 
 pub program_meets : {F K : Type 0} (r : Option Request) (a : Around F K) (world : Option World) (s : Status) → CommandMeets of_world r a world s → ProgramMeets r a world s

@@ -1,7 +1,10 @@
 -- Where no read and no write fails and memory is there, the files decide what a command comes to.
-use Rattle.dm_commands.proofs.Names.{◌≡◌, ◌⊎◌, inl, inr, ℕ, Bool, true, false, List, refl, ap, ap₂, sym, subst, ◌∙◌, Option, Some, None, Boot, Directive, RoseOrFull, appended, Verdict, good_verdict, HasTrace, NoFiles, NoTrace, AcceptsFiles, Drill as TheDrill}
-use Rattle.dm_commands.proofs.Names.{BlamesSink, IsWant, Input, Status, Done, Usage, ReadFault, NoMemory, WriteFault, BootRefused, ScheduleRefused, TooLong, Worn, TraceRefused, Request, Chart, Check, Count, Explain, Judge, Run, boot_of_machines, directives_of_drill, Look, LabelsRefused, CheckLabels}
-use Rattle.dm_words.specs.Request.{Drill, OwnDrill}
+use Rattle.dm_commands.proofs.Names.{◌≡◌, ◌⊎◌, inl, inr, ℕ, Bool, true, false, List, length, refl, ap, ap₂, sym, subst, ◌∙◌, Option, Some, None, Boot, Directive, RoseOrFull, appended, Verdict, good_verdict, HasTrace, NoFiles, NoTrace}
+use Rattle.dm_commands.proofs.Names.{AcceptsFiles, Drill as TheDrill, BlamesSink, IsWant, Input, Status, Done, Usage, ReadFault, NoMemory, WriteFault, BootRefused, ScheduleRefused, TooLong, Worn, TraceRefused, Request, Chart, Check}
+use Rattle.dm_commands.proofs.Names.{Count, Explain, Judge, Run, boot_of_machines, directives_of_drill, Look, LabelsRefused, NotFound, Undecided, CheckLabels}
+use Rattle.dm_explore.specs.Answers.{answer}
+use Rattle.dm_words.specs.declared.explore.Exploration.{Exploration}
+use Rattle.dm_words.specs.Request.{Drill, Explore, OwnDrill}
 use Rattle.dm_draw.specs.declared.drill.OwnDrill.{OwnDrill as TheOwnDrill}
 use Rattle.dm_draw.specs.declared.drill.Shows.{Shows}
 use Rattle.dm_draw.specs.declared.drill.Shows.TheVariants as shows
@@ -13,11 +16,13 @@ use Rattle.dm_checklaws.specs.Verdict.{verdict}
 use Rattle.dm_check.specs.declared.fault.TraceFault.{TraceFault}
 use Rattle.dm_commands.proofs.CheckOutcomes as checking
 use Rattle.dm_commands.proofs.Outcomes.{Files, only_want, same_boot, same_inputs, some_one}
-use Rattle.dm_commands.specs.Charts.{ChartSays}
+use Rattle.dm_commands.specs.Charts.{ChartSays, part_of}
+use Rattle.dm_chart.specs.declared.kept.Part.{Part}
 use Rattle.dm_commands.specs.Checks.{CheckSays, SaysCheck, good_line}
 use Rattle.dm_commands.specs.Commands.{CommandMeets}
 use Rattle.dm_commands.specs.Drills.{CountSays, CountedSays, DrilledSays, report_of}
 use Rattle.dm_commands.proofs.OwnDrilling.{only_lack}
+use Rattle.dm_commands.specs.Explores.{ExploreSays, SaysExplore, are_for, bounds_for, question_for, status_of_answer}
 use Rattle.dm_commands.specs.Inputs.{SaysBoot}
 use Rattle.dm_commands.specs.OwnDrills.{RunOwnSays, ScheduleSays, SaysOwn, ShownSays, directives_for, own_report}
 use Rattle.dm_commands.specs.Outside.{Around, Outside, outside}
@@ -26,9 +31,9 @@ use Rattle.dm_world.specs.declared.world.World.{World}
 use Rattle.dm_program.proofs.LabelsDecided.{labels_decided}
 use Rattle.dm_program.proofs.LookDecided.{look_decided}
 use Rattle.dm_program.proofs.Runs.Endings.{wears_after, worn_same}
-use Rattle.dm_program.specs.Decided.{Accepts, CheckIsDecided, DrillIsDecided, Finds, GivesGood, GivesRefused, IsDecided, OwnIsDecided, OwnRunIsDecided, RunIsDecided}
+use Rattle.dm_program.specs.Decided.{Accepts, CheckIsDecided, DrillIsDecided, ExploreIsDecided, Finds, GivesGood, GivesRefused, IsDecided, OwnIsDecided, OwnRunIsDecided, RunIsDecided}
 use Rattle.dm_program.specs.Printed.{Lasts, Wears, by_rule}
-use Rattle.dm_program.specs.Rule.{of_rule, traced_by_rule}
+use Rattle.dm_program.specs.Rule.{answered_by_rule, of_rule, traced_by_rule}
 
 -- what a status may say of the directives of a system: that they came to their end, or to a worn pair, or why neither
 record Tells (Says : Status → Type 0) (b : Boot) (ds : List Directive) : Type 0 where
@@ -41,6 +46,8 @@ record Tells (Says : Status → Type 0) (b : Boot) (ds : List Directive) : Type 
   long : (i : Input) → Says (TooLong i) → ⊥
   trace : (line why : ℕ) → Says (TraceRefused line why) → ⊥
   labels : (line : ℕ) → Says (LabelsRefused line) → ⊥
+  not_found : Says NotFound → ⊥
+  undecided : Says Undecided → ⊥
 
 to_end : (Says : Status → Type 0) (b : Boot) (ds : List Directive) (old new : ℕ) (s : Status) → Tells Says b ds → Says s → BlamesSink old new s → Lasts b ds → (RoseOrFull old new → ⊥) → (s ≡ Done) ⊎ IsWant s
 to_end Says b ds old new Done t h k l q = inl refl
@@ -54,6 +61,8 @@ to_end Says b ds old new (TooLong i) t h k l q = absurd (t.long i h)
 to_end Says b ds old new (Worn from to) t h k l q = let w = t.worn from to h in absurd (l w.0 from to w.1)
 to_end Says b ds old new (TraceRefused line why) t h k l q = absurd (t.trace line why h)
 to_end Says b ds old new (LabelsRefused line) t h k l q = absurd (t.labels line h)
+to_end Says b ds old new NotFound t h k l q = absurd (t.not_found h)
+to_end Says b ds old new Undecided t h k l q = absurd (t.undecided h)
 
 to_worn : (Says : Status → Type 0) (b : Boot) (ds : List Directive) (old new : ℕ) (s : Status) (from to : ℕ) → Tells Says b ds → Says s → BlamesSink old new s → Wears b ds from to → (RoseOrFull old new → ⊥) → (s ≡ Worn from to) ⊎ IsWant s
 to_worn Says b ds old new Done from to t h k w q = absurd (t.done h w.0 from to w.1)
@@ -70,6 +79,8 @@ to_worn Says b ds old new (Worn x y) from to t h k w q =
     inl (λ i. Worn (same.0 i) (same.1 i))
 to_worn Says b ds old new (TraceRefused line why) from to t h k w q = absurd (t.trace line why h)
 to_worn Says b ds old new (LabelsRefused line) from to t h k w q = absurd (t.labels line h)
+to_worn Says b ds old new NotFound from to t h k w q = absurd (t.not_found h)
+to_worn Says b ds old new Undecided from to t h k w q = absurd (t.undecided h)
 
 -- so it is by the rule
 run_tells : (b : Boot) (ds : List Directive) (before after : Option (List ℕ)) (world : Option World) → Tells (RunSays by_rule b ds before after world) b ds
@@ -83,10 +94,12 @@ run_tells b ds before after world = record {
   long = λ i h. h;
   trace = λ line why h. h;
   labels = λ line h. h;
+  not_found = λ h. h;
+  undecided = λ h. h;
 }
 
-chart_tells : (b : Boot) (ds : List Directive) (before after : Option (List ℕ)) (world : Option World) → Tells (ChartSays by_rule b ds before after world) b ds
-chart_tells b ds before after world = record {
+chart_tells : (part : Part) (b : Boot) (ds : List Directive) (before after : Option (List ℕ)) (world : Option World) → Tells (ChartSays part by_rule b ds before after world) b ds
+chart_tells part b ds before after world = record {
   done = λ h. h.is.rests.lasts;
   worn = λ from to h. (h.is.groups, wears_after b ds h.is.groups from to h.is.wears);
   usage = λ h. h;
@@ -96,6 +109,8 @@ chart_tells b ds before after world = record {
   long = λ i h. h;
   trace = λ line why h. h;
   labels = λ line h. h;
+  not_found = λ h. h;
+  undecided = λ h. h;
 }
 
 counted_tells : (tr : Bool) (k : Report) (b : Boot) (ds : List Directive) (before after : Option (List ℕ)) (world : Option World) → Tells (CountedSays by_rule tr k b ds before after world) b ds
@@ -109,6 +124,8 @@ counted_tells tr k b ds before after world = record {
   long = λ i h. h;
   trace = λ line why h. h;
   labels = λ line h. h;
+  not_found = λ h. h;
+  undecided = λ h. h;
 }
 
 -- a run, or the picture of one
@@ -176,6 +193,8 @@ accepts boot trace told files b bytes before after k k' (ScheduleRefused line wh
 accepts boot trace told files b bytes before after k k' (TooLong i) groups ended is has says sink gives quiet = absurd says
 accepts boot trace told files b bytes before after k k' (Worn from to) groups ended is has says sink gives quiet = absurd says
 accepts boot trace told files b bytes before after k k' (LabelsRefused line) groups ended is has says sink gives quiet = absurd says
+accepts boot trace told files b bytes before after k k' NotFound groups ended is has says sink gives quiet = absurd says
+accepts boot trace told files b bytes before after k k' Undecided groups ended is has says sink gives quiet = absurd says
 
 finds : (boot trace : List ℕ) (told : Option Files) (files : Files) (b : Boot) (bytes : List ℕ) (before after : Option (List ℕ)) (s : Status) (line why : ℕ) → told ≡ Some files → HasTrace told boot trace b bytes → CheckSays traced_by_rule b bytes before after s
     → GivesRefused files boot trace line why → (s ≡ TraceRefused line why) ⊎ IsWant s
@@ -197,6 +216,8 @@ finds boot trace told files b bytes before after (ScheduleRefused l w) line why 
 finds boot trace told files b bytes before after (TooLong i) line why is has says gives = absurd says
 finds boot trace told files b bytes before after (Worn from to) line why is has says gives = absurd says
 finds boot trace told files b bytes before after (LabelsRefused l) line why is has says gives = absurd says
+finds boot trace told files b bytes before after NotFound line why is has says gives = absurd says
+finds boot trace told files b bytes before after Undecided line why is has says gives = absurd says
 
 -- a trace
 check_decided : (boot trace : List ℕ) (o : Outside) (s : Status) → SaysCheck (CheckSays traced_by_rule) boot trace o s → BlamesSink o.writes_before o.writes_after s → CheckIsDecided boot trace o s
@@ -249,6 +270,8 @@ written_so b ds before after world old new (TooLong i) h k q = absurd h
 written_so b ds before after world old new (Worn from to) h k q = absurd h
 written_so b ds before after world old new (TraceRefused line why) h k q = absurd h
 written_so b ds before after world old new (LabelsRefused line) h k q = absurd h
+written_so b ds before after world old new NotFound h k q = absurd h
+written_so b ds before after world old new Undecided h k q = absurd h
 
 own_decided : (shown : Shows) (boot : List ℕ) (d : TheOwnDrill) (o : Outside) (s : Status) → SaysOwn (ShownSays by_rule d shown) boot d o s → BlamesSink o.writes_before o.writes_after s → OwnIsDecided shown boot d o s
 own_decided shows.Summary boot d o s says sink = own_run_decided false boot d o s says sink
@@ -258,17 +281,68 @@ own_decided shows.Directives boot d o s says sink = λ files b told gives never.
   | inr n ↦ inr (only_lack boot o.files files o.reads_before o.reads_after b s told n.why gives never.reads)
 ]
 
+-- exploring, where all that is named may be so, and where something may not
+explored : (b : Boot) (line : Option (List ℕ)) (e : Exploration) (before after : Option (List ℕ)) (old new : ℕ) (s : Status) → ExploreSays answered_by_rule b line e before after s → BlamesSink old new s
+    → are_for (length b.machines) e ≡ true → (RoseOrFull old new → ⊥)
+    → (s ≡ status_of_answer (answer b (bounds_for e) (question_for line e))) ⊎ IsWant s
+explored b line e before after old new Done h k named q = inl (sym (ap status_of_answer h.1.means.0))
+explored b line e before after old new NotFound h k named q = inl (sym (ap status_of_answer h.1.means.0))
+explored b line e before after old new Undecided h k named q = inl (sym (ap status_of_answer h.means.0))
+explored b line e before after old new Usage h k named q = let f : true ≡ false = sym named ∙ h.named in absurd cc
+explored b line e before after old new (NoMemory lack) h k named q = inr (lack, refl)
+explored b line e before after old new WriteFault h k named q = absurd (q k)
+explored b line e before after old new (ReadFault i) h k named q = absurd h
+explored b line e before after old new (BootRefused number place) h k named q = absurd h
+explored b line e before after old new (ScheduleRefused l why) h k named q = absurd h
+explored b line e before after old new (TooLong i) h k named q = absurd h
+explored b line e before after old new (Worn from to) h k named q = absurd h
+explored b line e before after old new (TraceRefused l why) h k named q = absurd h
+explored b line e before after old new (LabelsRefused l) h k named q = absurd h
+
+misnamed : (b : Boot) (line : Option (List ℕ)) (e : Exploration) (before after : Option (List ℕ)) (old new : ℕ) (s : Status) → ExploreSays answered_by_rule b line e before after s → BlamesSink old new s
+    → are_for (length b.machines) e ≡ false → (RoseOrFull old new → ⊥) → (s ≡ Usage) ⊎ IsWant s
+misnamed b line e before after old new Usage h k named q = inl refl
+misnamed b line e before after old new (NoMemory lack) h k named q = inr (lack, refl)
+misnamed b line e before after old new WriteFault h k named q = absurd (q k)
+misnamed b line e before after old new Done h k named q = let f : true ≡ false = sym h.1.named ∙ named in absurd cc
+misnamed b line e before after old new NotFound h k named q = let f : true ≡ false = sym h.1.named ∙ named in absurd cc
+misnamed b line e before after old new Undecided h k named q = let f : true ≡ false = sym h.named ∙ named in absurd cc
+misnamed b line e before after old new (ReadFault i) h k named q = absurd h
+misnamed b line e before after old new (BootRefused number place) h k named q = absurd h
+misnamed b line e before after old new (ScheduleRefused l why) h k named q = absurd h
+misnamed b line e before after old new (TooLong i) h k named q = absurd h
+misnamed b line e before after old new (Worn from to) h k named q = absurd h
+misnamed b line e before after old new (TraceRefused l why) h k named q = absurd h
+misnamed b line e before after old new (LabelsRefused l) h k named q = absurd h
+
+explore_decided : (boot : List ℕ) (line : Option (List ℕ)) (e : Exploration) (o : Outside) (s : Status) → SaysExplore answered_by_rule boot line e o s → BlamesSink o.writes_before o.writes_after s → ExploreIsDecided boot line e o s
+explore_decided boot line e o s says sink = record {
+  answers = λ files b told gives named never. elim says [
+    | inl r ↦
+        let same : r.system ≡ b = said_same boot o.files files r.system b told r.says_boot gives in
+        explored b line e o.before o.after o.writes_before o.writes_after s (subst (λ (x : Boot). ExploreSays answered_by_rule x line e o.before o.after s) same r.says) sink named never.writes
+    | inr n ↦ inr (only_lack boot o.files files o.reads_before o.reads_after b s told n.why gives never.reads)
+  ];
+  refuses = λ files b told gives named never. elim says [
+    | inl r ↦
+        let same : r.system ≡ b = said_same boot o.files files r.system b told r.says_boot gives in
+        misnamed b line e o.before o.after o.writes_before o.writes_after s (subst (λ (x : Boot). ExploreSays answered_by_rule x line e o.before o.after s) same r.says) sink named never.writes
+    | inr n ↦ inr (only_lack boot o.files files o.reads_before o.reads_after b s told n.why gives never.reads)
+  ];
+}
+
 -- whatever the words ask for
 pub decided : {F K : Type 0} (r : Option Request) (a : Around F K) (world : Option World) (s : Status) → CommandMeets of_rule r a world s → IsDecided r (outside a world) s
 decided None a world s h = tt
 decided (Some (Run boot schedule)) a world s h = run_decided (RunSays by_rule) boot schedule (outside a world) s (λ b ds. run_tells b ds _ _ world) h.says h.met.sink.blames
 decided (Some (Check boot trace)) a world s h = check_decided boot trace (outside a world) s h.says h.met.sink.blames
 decided (Some (CheckLabels boot labels)) a world s h = labels_decided boot labels (outside a world) s h.says h.met.sink.blames
-decided (Some (Chart boot schedule)) a world s h = run_decided (ChartSays by_rule) boot schedule (outside a world) s (λ b ds. chart_tells b ds _ _ world) h.as_run.says h.as_run.met.sink.blames
+decided (Some (Chart boot schedule first last)) a world s h = run_decided (ChartSays (part_of first last) by_rule) boot schedule (outside a world) s (λ b ds. chart_tells (part_of first last) b ds _ _ world) h.as_run.says h.as_run.met.sink.blames
 decided (Some (Explain boot schedule)) a world s h = tt
 decided (Some (Judge boot trace)) a world s h = tt
 decided (Some (Count boot schedule)) a world s h = run_decided (CountSays by_rule) boot schedule (outside a world) s (λ b ds. counted_tells false report.OfRun b ds _ _ world) h.says h.met.sink.blames
 decided (Some (Look boot schedule groups)) a world s h = look_decided groups boot schedule (outside a world) s h.as_run.says h.as_run.met.sink.blames
+decided (Some (Explore boot line e)) a world s h = explore_decided boot line e (outside a world) s h.says h.met.sink.blames
 decided (Some (Drill d)) a world s h =
     let b = boot_of_machines d.machines in
     let ds = directives_of_drill d in

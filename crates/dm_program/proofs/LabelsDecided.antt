@@ -1,5 +1,6 @@
 -- Where no read and no write fails and memory is there, the files decide what `check` comes to on labels.
-use Rattle.dm_commands.proofs.Names.{◌≡◌, ◌⊎◌, inl, inr, ℕ, List, refl, ap, ap₂, sym, subst, ◌∙◌, Option, Some, Boot, RoseOrFull, appended, BlamesSink, IsWant, Status, Done, Usage, ReadFault, NoMemory, WriteFault, BootRefused, ScheduleRefused, TooLong, Worn, TraceRefused, LabelsRefused}
+use Rattle.dm_commands.proofs.Names.{◌≡◌, ◌⊎◌, inl, inr, ℕ, List, refl, ap, ap₂, sym, subst, ◌∙◌, Option, Some, Boot, RoseOrFull, appended, BlamesSink, IsWant, Status, Done, Usage, ReadFault, NoMemory, WriteFault, BootRefused}
+use Rattle.dm_commands.proofs.Names.{ScheduleRefused, TooLong, Worn, TraceRefused, LabelsRefused, NotFound, Undecided}
 use Rattle.dm_commands.proofs.LabelOutcomes.{only_want}
 use Rattle.dm_commands.proofs.Outcomes.{Files, same_boot, some_one}
 use Rattle.dm_commands.specs.LabelChecks.{HasLabels, LabelsSay, SaysLabels, good_labels_line}
@@ -38,6 +39,8 @@ accepts boot labels told files b bytes before after k k' (ScheduleRefused line w
 accepts boot labels told files b bytes before after k k' (TooLong i) n is has says sink gives quiet = absurd says
 accepts boot labels told files b bytes before after k k' (Worn from to) n is has says sink gives quiet = absurd says
 accepts boot labels told files b bytes before after k k' (TraceRefused line why) n is has says sink gives quiet = absurd says
+accepts boot labels told files b bytes before after k k' NotFound n is has says sink gives quiet = absurd says
+accepts boot labels told files b bytes before after k k' Undecided n is has says sink gives quiet = absurd says
 
 finds : (boot labels : List ℕ) (told : Option Files) (files : Files) (b : Boot) (bytes : List ℕ) (before after : Option (List ℕ)) (s : Status) (line : ℕ) → told ≡ Some files → HasLabels told boot labels b bytes → LabelsSay b bytes before after s
     → GivesLabels files boot labels (Refused line) → (s ≡ LabelsRefused line) ⊎ IsWant s
@@ -53,6 +56,8 @@ finds boot labels told files b bytes before after (ScheduleRefused l w) line is 
 finds boot labels told files b bytes before after (TooLong i) line is has says gives = absurd says
 finds boot labels told files b bytes before after (Worn from to) line is has says gives = absurd says
 finds boot labels told files b bytes before after (TraceRefused l w) line is has says gives = absurd says
+finds boot labels told files b bytes before after NotFound line is has says gives = absurd says
+finds boot labels told files b bytes before after Undecided line is has says gives = absurd says
 
 pub labels_decided : (boot labels : List ℕ) (o : Outside) (s : Status) → SaysLabels boot labels o s → BlamesSink o.writes_before o.writes_after s → LabelsAreDecided boot labels o s
 labels_decided boot labels o s says sink = record {

@@ -1,5 +1,6 @@
 -- What a look comes to where no read and no write fails and memory is there.
-use Rattle.dm_commands.proofs.Names.{◌≡◌, ◌⊎◌, inl, inr, ℕ, List, refl, ap₂, sym, subst, ◌∙◌, Option, Some, None, Boot, Directive, RoseOrFull, BlamesSink, IsWant, Status, Done, Usage, ReadFault, NoMemory, WriteFault, BootRefused, ScheduleRefused, TooLong, Worn, TraceRefused, LabelsRefused, World}
+use Rattle.dm_commands.proofs.Names.{◌≡◌, ◌⊎◌, inl, inr, ℕ, List, refl, ap₂, sym, subst, ◌∙◌, Option, Some, None, Boot, Directive, RoseOrFull, BlamesSink, IsWant, Status, Done, Usage, ReadFault, NoMemory, WriteFault, BootRefused}
+use Rattle.dm_commands.proofs.Names.{ScheduleRefused, TooLong, Worn, TraceRefused, LabelsRefused, NotFound, Undecided, World}
 use Rattle.dm_commands.proofs.Outcomes.{only_want, same_inputs}
 use Rattle.dm_commands.specs.Looks.{LookSays}
 use Rattle.dm_commands.specs.Outside.{Outside}
@@ -27,6 +28,8 @@ comes_to_end most b ds before after world old new (Worn from to) h k lasts quiet
     absurd (lasts from to (record { groups = h.worn.groups; worn = wears_after b ds h.worn.groups from to h.worn.wears; early = h.worn.early }))
 comes_to_end most b ds before after world old new (TraceRefused line why) h k lasts quiet = absurd h
 comes_to_end most b ds before after world old new (LabelsRefused line) h k lasts quiet = absurd h
+comes_to_end most b ds before after world old new NotFound h k lasts quiet = absurd h
+comes_to_end most b ds before after world old new Undecided h k lasts quiet = absurd h
 
 stops_early : (most : ℕ) (b : Boot) (ds : List Directive) (before after : Option (List ℕ)) (world : Option World) (old new : ℕ) (s : Status) (from to : ℕ) → Says most b ds before after world s → BlamesSink old new s → WearsEarly b ds most from to
     → (RoseOrFull old new → ⊥) → (s ≡ Worn from to) ⊎ IsWant s
@@ -43,6 +46,8 @@ stops_early most b ds before after world old new (Worn x y) from to h k w quiet 
     inl (λ i. Worn (same.0 i) (same.1 i))
 stops_early most b ds before after world old new (TraceRefused line why) from to h k w quiet = absurd h
 stops_early most b ds before after world old new (LabelsRefused line) from to h k w quiet = absurd h
+stops_early most b ds before after world old new NotFound from to h k w quiet = absurd h
+stops_early most b ds before after world old new Undecided from to h k w quiet = absurd h
 
 pub look_decided : (most : ℕ) (boot schedule : List ℕ) (o : Outside) (s : Status) → SaysRun (LookSays by_rule held_by_rule most) boot schedule o s → BlamesSink o.writes_before o.writes_after s → LookIsDecided most boot schedule o s
 look_decided most boot schedule o s says sink = record {

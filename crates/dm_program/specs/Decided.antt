@@ -1,5 +1,5 @@
 -- What each command comes to, whoever asks: where no read and no write fails and memory is there, it is decided by the files.
-use Rattle.std.specs.Prelude.{◌≡◌, ◌<◌, ⊤, ℕ, ◌⊎◌, Bool, List, length}
+use Rattle.std.specs.Prelude.{◌≡◌, ◌<◌, ⊤, ℕ, ◌⊎◌, Bool, true, false, List, length}
 use Rattle.std.specs.declared.option.Option.{Option}
 use Rattle.std.specs.declared.option.Option.TheVariants.{None, Some}
 use Rattle.dm_onekernel.specs.declared.boot.Boot.{Boot}
@@ -12,14 +12,17 @@ use Rattle.dm_draw.specs.declared.drill.OwnDrill.{OwnDrill as TheOwnDrill}
 use Rattle.dm_draw.specs.declared.drill.Shows.{Shows}
 use Rattle.dm_draw.specs.declared.drill.Shows.TheVariants as shows
 use Rattle.dm_ending.specs.declared.status.Status.{Status}
-use Rattle.dm_ending.specs.declared.status.Status.TheVariants.{Done, LabelsRefused, TraceRefused, Worn}
+use Rattle.dm_ending.specs.declared.status.Status.TheVariants.{Done, LabelsRefused, TraceRefused, Usage, Worn}
 use Rattle.dm_ending.specs.Status.{IsWant}
-use Rattle.dm_words.specs.Request.{Request, Chart, Check, Count, Drill, Explain, Judge, OwnDrill, Run, Look, CheckLabels}
+use Rattle.dm_words.specs.Request.{Request, Chart, Check, Count, Drill, Explain, Explore, Judge, OwnDrill, Run, Look, CheckLabels}
 use Rattle.dm_check.specs.Good.{good_verdict}
 use Rattle.dm_checklaws.specs.Verdict.{verdict}
 use Rattle.dm_commands.specs.Checks.{HasTrace, RefusesTrace, good_line}
 use Rattle.dm_commands.specs.Drills.{directives_of_drill}
 use Rattle.dm_commands.specs.Inputs.{AcceptsFiles, SaysBoot}
+use Rattle.dm_explore.specs.Answers.{answer}
+use Rattle.dm_words.specs.declared.explore.Exploration.{Exploration}
+use Rattle.dm_commands.specs.Explores.{are_for, bounds_for, question_for, status_of_answer}
 use Rattle.dm_commands.specs.OwnDrills.{directives_for}
 use Rattle.dm_commands.specs.LabelChecks.{HasLabels, good_labels_line}
 use Rattle.dm_labels.specs.Judged.{judged}
@@ -117,16 +120,23 @@ pub record LookIsDecided (most : ℕ) (boot schedule : List ℕ) (o : Outside) (
   pub wears : (files : List ℕ → Option (List ℕ)) (b : Boot) (ds : List Directive) (from to : ℕ) → o.files ≡ Some files → AcceptsFiles (Some files) boot schedule b ds
       → WearsEarly b ds most from to → NeverFails o → (s ≡ Worn from to) ⊎ IsWant s
 
+-- so it is with exploring: the answer is a function of the system, the bounds and what is looked for
+pub record ExploreIsDecided (boot : List ℕ) (line : Option (List ℕ)) (e : Exploration) (o : Outside) (s : Status) : Type 0 where
+  pub answers : (files : List ℕ → Option (List ℕ)) (b : Boot) → o.files ≡ Some files → SaysBoot (Some files) boot b → are_for (length b.machines) e ≡ true → NeverFails o
+      → (s ≡ status_of_answer (answer b (bounds_for e) (question_for line e))) ⊎ IsWant s
+  pub refuses : (files : List ℕ → Option (List ℕ)) (b : Boot) → o.files ≡ Some files → SaysBoot (Some files) boot b → are_for (length b.machines) e ≡ false → NeverFails o → (s ≡ Usage) ⊎ IsWant s
+
 -- a row a command: what `explain` comes to is among what it promises
 abbrev pub IsDecided : Option Request → Outside → Status → Type 0
 IsDecided None o s = ⊤
 IsDecided (Some (Run boot schedule)) o s = RunIsDecided boot schedule o s
 IsDecided (Some (Check boot trace)) o s = CheckIsDecided boot trace o s
 IsDecided (Some (CheckLabels boot labels)) o s = LabelsAreDecided boot labels o s
-IsDecided (Some (Chart boot schedule)) o s = RunIsDecided boot schedule o s
+IsDecided (Some (Chart boot schedule first last)) o s = RunIsDecided boot schedule o s
 IsDecided (Some (Explain boot schedule)) o s = ⊤
 IsDecided (Some (Judge boot trace)) o s = ⊤
 IsDecided (Some (Count boot schedule)) o s = RunIsDecided boot schedule o s
 IsDecided (Some (Look boot schedule groups)) o s = LookIsDecided groups boot schedule o s
+IsDecided (Some (Explore boot line e)) o s = ExploreIsDecided boot line e o s
 IsDecided (Some (Drill d)) o s = DrillIsDecided d o s
 IsDecided (Some (OwnDrill boot d)) o s = OwnIsDecided d.shows boot d o s

@@ -4,10 +4,13 @@ use Rattle.std.specs.declared.option.Option.TheVariants.{Some}
 use Rattle.dm_checklaws.specs.DueStands.{due_by_rule}
 use Rattle.dm_checklaws.specs.Good.{IsTrace}
 use Rattle.dm_checklaws.specs.Verdict.{verdict}
+use Rattle.dm_explore.specs.Answers.{answer}
+use Rattle.dm_explorelaws.specs.ByRule.{AnsweredByRule}
 use Rattle.dm_look.specs.Looked.{Holding}
 use Rattle.dm_looklaws.specs.Letters.{HoldsLetters}
 use Rattle.dm_commands.specs.Checks.{TraceMeans}
 use Rattle.dm_commands.specs.Commands.{Terms}
+use Rattle.dm_commands.specs.Explores.{AnswerMeans}
 use Rattle.dm_program.specs.Printed.{by_rule}
 
 -- of a trace: its verdict, that it is the text of good lines, and what was due in a line of it
@@ -18,5 +21,9 @@ traced_by_rule = record { comes_to = λ b bytes v. verdict b bytes ≡ v; is_of 
 abbrev pub held_by_rule : Holding by_rule
 held_by_rule b p letters = HoldsLetters p.end letters
 
+-- of exploring: the answer by the machines, and what it says of all good runs of choices
+abbrev pub answered_by_rule : AnswerMeans
+answered_by_rule b q x a = (answer b q x ≡ a) × AnsweredByRule b q x a
+
 abbrev pub of_rule : Terms
-of_rule = record { run = by_rule; holds = held_by_rule; trace = traced_by_rule }
+of_rule = record { run = by_rule; holds = held_by_rule; trace = traced_by_rule; answer = answered_by_rule }

@@ -1,4 +1,5 @@
 -- One notion of a run carries to another what is said by it.
+use Rattle.dm_chart.specs.declared.kept.Part.{Part}
 use Rattle.dm_run.proofs.Names.{◌≡◌, ◌↔◌, ◌⊎◌, inl, inr, ℕ, ◌++◌, List, [], ap, ◌∙◌, subst, All, Option, None, Some, Boot, Directive, EndLine, Line, EndFits, text_of_ends, text_of_lines, joined, World, appended}
 use Rattle.dm_run.proofs.Names.{Notion, StandsFor, IsWhole, IsOfFirst, IsBegun, WearsAfter, RunWears, PictureIsWhole, IsBeforeWorn}
 
@@ -71,10 +72,10 @@ carried_wears r s b ds gs from to carries h =
 pub carried_run_wears : (r s : Notion) (b : Boot) (ds : List Directive) (old new : Option (List ℕ)) (from to : ℕ) → Carries r s b ds → RunWears r b ds old new from to → RunWears s b ds old new from to
 carried_run_wears r s b ds old new from to carries h = record { groups = h.groups; wears = carried_wears r s b ds h.groups from to carries h.wears; fits = h.fits; written = h.written }
 
-pub carried_picture : (r s : Notion) (b : Boot) (ds : List Directive) (text : List ℕ) → Carries r s b ds → PictureIsWhole r b ds text → PictureIsWhole s b ds text
-carried_picture r s b ds text carries h =
+pub carried_picture : (part : Part) (r s : Notion) (b : Boot) (ds : List Directive) (text : List ℕ) → Carries r s b ds → PictureIsWhole part r b ds text → PictureIsWhole part s b ds text
+carried_picture part r s b ds text carries h =
     let c = carries h.groups h.at h.good in
     record { groups = h.groups; at = c.at; good = c.good; over = c.over h.over; rests = c.rests h.over; text_is = h.text_is }
 
-pub carried_before_worn : (r s : Notion) (b : Boot) (ds : List Directive) (text : List ℕ) (from to : ℕ) → Carries r s b ds → IsBeforeWorn r b ds text from to → IsBeforeWorn s b ds text from to
-carried_before_worn r s b ds text from to carries h = record { groups = h.groups; wears = carried_wears r s b ds h.groups from to carries h.wears; text_is = h.text_is }
+pub carried_before_worn : (part : Part) (r s : Notion) (b : Boot) (ds : List Directive) (text : List ℕ) (from to : ℕ) → Carries r s b ds → IsBeforeWorn part r b ds text from to → IsBeforeWorn part s b ds text from to
+carried_before_worn part r s b ds text from to carries h = record { groups = h.groups; wears = carried_wears r s b ds h.groups from to carries h.wears; text_is = h.text_is }

@@ -18,10 +18,10 @@ use dm_world::{Stop, World};
 pub fn collect(directives: &[Directive], world: &mut World, kept: &mut Kept) -> Result<(), Stop>
     requires law { RunsGo }
     requires fresh { IsAtStart world.old }
-    requires none { kept.old ≡ none_kept }
+    requires none { kept.old ≡ none_kept kept.old.part }
     requires each { All (IsFor (length world.old.boot.machines)) directives.now }
     requires few { length directives.now ≤ MOST_SCHEDULE }
-    ensures came { IsCollected world.old.boot directives.now kept.new (world_state world.new) result }
+    ensures came { IsCollected kept.old.part world.old.boot directives.now kept.new (world_state world.new) result }
 {
     let mut way = Way::new();
     'groups: while let Some(step) = next_step(world, directives, &mut way) {

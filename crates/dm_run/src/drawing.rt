@@ -11,7 +11,7 @@ ghost use Rattle.dm_run.specs.Went.{RunsGo};
 
 use crate::collect::collect;
 use crate::running::begin;
-use dm_chart::{Kept, Reach, picture, starts_of};
+use dm_chart::{Kept, Part, Reach, picture, starts_of};
 use dm_link::Pid;
 use dm_memory::NoMemory;
 use dm_onekernel::Boot;
@@ -28,18 +28,30 @@ pub enum Drawn {
     Worn { text: Vec<u8>, from: u8, to: u8 },
 }
 
-/// Does these directives on the system of a boot file, and draws what happens.
-pub fn draw_run(alloc: Global, boot: Boot, directives: &[Directive]) -> Result<Drawn, NoMemory>
+/// Does these directives on the system of a boot file, and draws what happens in these groups.
+pub fn draw_run(
+    alloc: Global,
+    boot: Boot,
+    directives: &[Directive],
+    part: Part,
+) -> Result<Drawn, NoMemory>
     requires law { RunsGo }
     requires valid { IsValid boot }
     requires each { All (IsFor (length boot.machines)) directives.now }
     requires few { length directives.now ≤ MOST_SCHEDULE }
-    ensures { IfOk result (λ d. IsDrawn by_world boot directives.now d) }
+    ensures { IfOk result (λ d. IsDrawn part by_world boot directives.now d) }
 {
     let machines = count_of(&boot);
     let starts = starts_of(alloc, &boot)?;
     let mut world = begin(alloc, boot)?;
-    draw_world(alloc, machines, starts.as_slice(), directives, &mut world)
+    draw_world(
+        alloc,
+        machines,
+        starts.as_slice(),
+        directives,
+        part,
+        &mut world,
+    )
 }
 
 /// How many machines there are, at most 16.
@@ -56,6 +68,7 @@ fn draw_world(
     machines: u8,
     starts: &[Pid],
     directives: &[Directive],
+    part: Part,
     world: &mut World,
 ) -> Result<Drawn, NoMemory>
     requires law { RunsGo }
@@ -64,9 +77,9 @@ fn draw_world(
     requires starts { starts.now ≡ boot_pids world.old.boot }
     requires each { All (IsFor (length world.old.boot.machines)) directives.now }
     requires few { length directives.now ≤ MOST_SCHEDULE }
-    ensures { IfOk result (λ d. IsDrawn by_world world.old.boot directives.now d) }
+    ensures { IfOk result (λ d. IsDrawn part by_world world.old.boot directives.now d) }
 {
-    let mut kept = Kept::new(alloc);
+    let mut kept = Kept::new(alloc, part);
     match collect(directives, world, &mut kept) {
         Ok(()) => {
             let whole = picture(alloc, machines, starts, &kept, Reach::Whole)?;

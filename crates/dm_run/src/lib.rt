@@ -14,6 +14,6 @@ pub use directives::run_to_end;
 pub use drawing::{Drawn, draw_run};
 pub use fit::lines_fit;
 pub use offering::{offer, offer_bytes, offer_ends};
-pub use running::{begin, do_step, end_lines, step_on};
+pub use running::{begin, begin_again, do_step, end_lines, step_on};
 pub use way::{Way, next_step};
 pub use write::write_all;

@@ -32,6 +32,18 @@ pub fn begin(alloc: Global, boot: Boot) -> Result<World, NoMemory>
     Ok(world)
 }
 
+/// The system of its boot file once more, before its first directive.
+pub fn begin_again(world: &mut World) -> Result<(), NoMemory>
+    requires { IsValid world.old.boot }
+    ensures fresh { OnOk result (IsAtStart world.new) }
+    ensures running { OnOk result (IsRunning world.new) }
+    ensures boot { world.new.boot ≡ world.old.boot }
+    ensures groups { OnOk result (world.new.groups ≡ 0) }
+{
+    world.restart()?;
+    Ok(())
+}
+
 /// Does an elementary directive: the lines of its group, its head first. A world that stops takes no further directive.
 pub fn step_on(world: &mut World, step: &Step) -> Result<Vec<Line>, WorldStop>
     requires law { RunsGo }

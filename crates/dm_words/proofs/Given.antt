@@ -7,8 +7,9 @@ use Rattle.dm_words.proofs.Names.{reacted, reading_by, refused, settled, settled
 use Rattle.dm_words.proofs.Names.{used_as, used_by_id, value, values_or_missing, waits, walk, walk_from, walked, walked_from, with_default, with_values, without, word_met, done, check_kinds, or_else, range_kinds, is_given, action_fault}
 use Rattle.dm_words.proofs.Names.{bundle_step_fault, check_fault, defaults_fault, entered_fault, flag_word_fault, flags_fault, level_fault, long_fault, option_fault, other_fault, positional_fault, react_fault, settle_fault, short_fault}
 use Rattle.dm_words.proofs.Names.{step_fault, stray_fault, use_fault, walk_fault, word_fault, Shape, argument_words, built, entered, label_of, labels_of, rows_at, ValueSource, DefaultValue, CommandLine, Reading, drill_by, has_system, lines_asked, own_by, run_by, schedule_of, shows_by}
-use Rattle.dm_words.proofs.Names.{machines_asked, seed_of, trace_of, explaining, both_files, Request, Chart, Check, Count, Explain, Judge, Run, run_command, AreTaken, IsTaken, demosmp, request_at, request_of, Some, Drill, OwnDrill, groups_of, looking, Look, CheckLabels, checking, is_just_one}
+use Rattle.dm_words.proofs.Names.{machines_asked, seed_of, trace_of, explaining, both_files, Request, Chart, Check, Count, Explain, Judge, Run, run_command, AreTaken, IsTaken, demosmp, request_at, request_of, Some, Drill, OwnDrill, groups_of, looking, Look, CheckLabels, checking, is_just_one, Exploration, Explore, exploration_of, exploring, looking_for}
 use Rattle.dm_draw.specs.declared.drill.Shows.TheVariants as shows
+use Rattle.dm_words.specs.ChartWords.{charting, group_in, takes_chart}
 use Rattle.clap.specs.Walk.{Text}
 use Rattle.clap.specs.Kinds.{Kinds}
 use Rattle.clap.specs.Faults.{fault_of}
@@ -48,10 +49,12 @@ full_with id how s values rows some f = full_at id (more_values s values) _ rows
 full_without : (id : Text) (rows : List Row) → Full rows → Full (without id rows)
 full_without id rows f = full_at id (λ _. []) [] rows (λ r h. tt) tt f
 
--- ---- arguments that take one value, or ask for help
+-- ---- arguments that take a value, ask for help, may come again, or take none
 
 abbrev IsOne : Rule → Type 0
-IsOne a = ((action_of a ≡ action.Set) × ((unwrap_or_range a.range).start_inclusive ≡ 1)) ⊎ (action_of a ≡ action.Help)
+IsOne a =
+    ((action_of a ≡ action.Set) × ((unwrap_or_range a.range).start_inclusive ≡ 1)) ⊎ ((action_of a ≡ action.Help)
+    ⊎ (((action_of a ≡ action.Append) × ((unwrap_or_range a.range).start_inclusive ≡ 1)) ⊎ ((action_of a ≡ action.SetTrue) × (0 < length a.missing))))
 
 abbrev Each : List Rule → Type 0
 Each [] = ⊤
@@ -80,10 +83,24 @@ full_set a [] rows set some f = absurd (omega arith)
 full_set a (v ∷ vs) rows set some f =
     subst (λ x. Full (used_as x a.id (reading_by a) (v ∷ vs) rows)) (sym set) (full_with a.id (reading_by a) CommandLine (v ∷ vs) (without a.id rows) (omega arith) (full_without a.id rows f))
 
+full_more : (a : Rule) (values : List Text) (rows : List Row) → action_of a ≡ action.Append → 0 < length values → Full rows → Full (used a values rows)
+full_more a [] rows more some f = absurd (omega arith)
+full_more a (v ∷ vs) rows more some f =
+    subst (λ x. Full (used_as x a.id (reading_by a) (v ∷ vs) rows)) (sym more) (full_with a.id (reading_by a) CommandLine (v ∷ vs) rows (omega arith) f)
+
+full_flag : (a : Rule) (values : List Text) (rows : List Row) → action_of a ≡ action.SetTrue → 0 < length a.missing → Full rows → Full (used a values rows)
+full_flag a [] rows set some f =
+    subst (λ x. Full (used_as x a.id (reading_by a) a.missing rows)) (sym set) (full_with a.id (reading_by a) CommandLine a.missing (without a.id rows) some (full_without a.id rows f))
+full_flag a (v ∷ vs) rows set some f =
+    subst (λ x. Full (used_as x a.id (reading_by a) (v ∷ vs) rows)) (sym set) (full_with a.id (reading_by a) CommandLine (v ∷ vs) (without a.id rows) (omega arith) (full_without a.id rows f))
+
 full_used : (again : Bool) (a : Rule) (values : List Text) (rows : List Row) → IsOne a → use_fault again a values rows ≡ [] → Full rows → Full (used a values rows)
 full_used again a values rows (inl set) e f =
     full_set a values rows set.0 (some_values (unwrap_or_range a.range).start_inclusive (most_values a) (length values) set.1 (both_pass _ _ e).0) f
-full_used again a values rows (inr help) e f =
+full_used again a values rows (inr (inr (inl more))) e f =
+    full_more a values rows more.0 (some_values (unwrap_or_range a.range).start_inclusive (most_values a) (length values) more.1 (both_pass _ _ e).0) f
+full_used again a values rows (inr (inr (inr flag))) e f = full_flag a values rows flag.0 flag.1 f
+full_used again a values rows (inr (inl help)) e f =
     let bad : kind.DisplayHelp ∷ [] ≡ [] = subst (λ x. action_fault x again a (values_or_missing a values) rows ≡ []) help (both_pass _ _ e).1 in
     cc
 
@@ -295,26 +312,56 @@ count_built = in_place 4 (built demosmp).subs
 abbrev look_built : Shape
 look_built = in_place 5 (built demosmp).subs
 
+abbrev explore_built : Shape
+explore_built = in_place 6 (built demosmp).subs
+
 abbrev drill_built : Shape
-drill_built = in_place 6 (built demosmp).subs
+drill_built = in_place 7 (built demosmp).subs
 
 each_of_run : Each run_built.rules
-each_of_run = (inl (refl, refl), (inl (refl, refl), (inr refl, tt)))
+each_of_run = (inl (refl, refl), (inl (refl, refl), (inr (inl refl), tt)))
 
 each_of_check : Each check_built.rules
-each_of_check = (inl (refl, refl), (inl (refl, refl), (inl (refl, refl), (inr refl, tt))))
+each_of_check = (inl (refl, refl), (inl (refl, refl), (inl (refl, refl), (inr (inl refl), tt))))
 
 each_of_chart : Each chart_built.rules
-each_of_chart = (inl (refl, refl), (inl (refl, refl), (inr refl, tt)))
+each_of_chart = (inl (refl, refl), (inl (refl, refl), (inl (refl, refl), (inl (refl, refl), (inr (inl refl), tt)))))
 
 each_of_explain : Each explain_built.rules
-each_of_explain = (inl (refl, refl), (inl (refl, refl), (inl (refl, refl), (inr refl, tt))))
+each_of_explain = (inl (refl, refl), (inl (refl, refl), (inl (refl, refl), (inr (inl refl), tt))))
 
 each_of_count : Each count_built.rules
-each_of_count = (inl (refl, refl), (inl (refl, refl), (inr refl, tt)))
+each_of_count = (inl (refl, refl), (inl (refl, refl), (inr (inl refl), tt)))
 
 each_of_look : Each look_built.rules
-each_of_look = (inl (refl, refl), (inl (refl, refl), (inl (refl, refl), (inr refl, tt))))
+each_of_look = (inl (refl, refl), (inl (refl, refl), (inl (refl, refl), (inr (inl refl), tt))))
+
+each_of_explore : Each explore_built.rules
+each_of_explore = (
+  inl (refl, refl),
+  (
+    inl (refl, refl),
+    (
+      inl (refl, refl),
+      (
+        inr (inr (inl (refl, refl))),
+        (
+          inr (inr (inl (refl, refl))),
+          (
+            inr (inr (inl (refl, refl))),
+            (
+              inl (refl, refl),
+              (
+                inl (refl, refl),
+                (inr (inr (inr (refl, omega arith))), (inl (refl, refl), (inr (inl refl), tt))),
+              ),
+            ),
+          ),
+        ),
+      ),
+    ),
+  ),
+)
 
 one_given : (x : Bool) → check_kinds false false (not x || false) ≡ [] → x ≡ true
 one_given true e = refl
@@ -393,10 +440,18 @@ check_asks words e values =
     let there = check_there named.0 trace labels values in
     (there.0, ap (λ (o : Option Text). checking o trace labels) named.1 ∙ there.1)
 
+charts : (boot schedule : Text) (taken : Bool) (first last : Option ℕ) → taken ≡ true → (r : Request) × (charting (Some boot) (Some schedule) taken first last ≡ Some r)
+charts boot schedule true first last e = (Chart boot schedule first last, refl)
+charts boot schedule false first last e = cc
+
 chart_asks : Asks chart_built
 chart_asks words e values =
+    let rows : List Row = matched chart_built words in
+    let first : Option ℕ = option_and_then group_in (first_of (codes "from") rows) in
+    let last : Option ℕ = option_and_then group_in (first_of (codes "to") rows) in
     let names = names_both chart_built (codes "boot") (codes "schedule") words each_of_chart (λ rows. refl) e in
-    (Chart names.first.0 names.second.0, ap₂ (both_files (λ boot schedule. Chart boot schedule)) names.first.1 names.second.1)
+    let asked = charts names.first.0 names.second.0 (takes_chart rows) first last values in
+    (asked.0, ap₂ (λ x y. charting x y (takes_chart rows) first last) names.first.1 names.second.1 ∙ asked.1)
 
 -- a boot file is named, and no schedule and trace together
 explain_there : (boot : Text) (schedule trace : Option Text) → not (is_some schedule && is_some trace) ≡ true → (r : Request) × (explaining (Some boot) schedule trace ≡ Some r)
@@ -427,6 +482,18 @@ look_asks words e values =
     let names = names_two look_built (codes "boot") (codes "schedule") (codes "at") words each_of_look (λ rows. refl) e in
     let asked = looks names.first.0 names.second.0 (groups_of rows) values in
     (asked.0, ap₂ (λ x y. looking x y (groups_of rows)) names.first.1 names.second.1 ∙ asked.1)
+
+-- a command that takes what is looked for, and the numbers and names, explores
+explores : (boot : Text) (line : Option Text) (e : Option Exploration) → option_map_or (looking_for line) e false ≡ true → (r : Request) × (exploring (Some boot) line e ≡ Some r)
+explores boot line (Some e) takes = (Explore boot line e, ap (λ (b : Bool). if b then Some (Explore boot line e) else None) takes)
+explores boot line None takes = cc
+
+explore_asks : Asks explore_built
+explore_asks words e values =
+    let rows : List Row = matched explore_built words in
+    let names = names_both explore_built (codes "boot") (codes "depth") words each_of_explore (λ rows. refl) e in
+    let asked = explores names.first.0 (first_of (codes "line") rows) (exploration_of rows) values in
+    (asked.0, ap (λ (o : Option Text). exploring o (first_of (codes "line") rows) (exploration_of rows)) names.first.1 ∙ asked.1)
 
 -- a command that takes the numbers of a drill does it, of a system that is drawn or of a boot file's
 drawn_there : (schedule trace : Bool) (seed machines lines : Option ℕ) → is_some seed && (is_some lines && (is_some machines && not schedule)) ≡ true → (r : Request) × (run_by schedule trace seed machines lines ≡ Some r)
@@ -468,7 +535,7 @@ AllAsk (s ∷ ss) = Asks s × AllAsk ss
 
 -- a row a command
 all_ask : AllAsk (built demosmp).subs
-all_ask = (run_asks, (check_asks, (chart_asks, (explain_asks, (count_asks, (look_asks, (drill_asks, tt)))))))
+all_ask = (run_asks, (check_asks, (chart_asks, (explain_asks, (count_asks, (look_asks, (explore_asks, (drill_asks, tt))))))))
 
 abbrev AsksIf : Option Shape → Type 0
 AsksIf None = ⊤

@@ -40,7 +40,9 @@ pub use Rattle.dm_words.specs.CountWords.{count_command}
 pub use Rattle.dm_words.specs.DrillWords.{drawn_by, drill_by, drill_command, drill_request, flag_option, has_system, lines_asked, machines_asked, number_option, own_by, run_by, schedule_of, seed_of, shows_by, trace_of}
 pub use Rattle.dm_words.specs.ExplainWords.{explain_command, explain_request, explaining, takes_explain}
 pub use Rattle.dm_words.specs.FileWords.{both_files, file_option, free_option, two_files}
-pub use Rattle.dm_words.specs.Request.{Chart, Check, Count, Drill, Explain, Judge, OwnDrill, Request, Run, Look, CheckLabels}
+pub use Rattle.dm_words.specs.ExploreWords.{exploration_of, explore_command, exploring, looking_for, many_option}
+pub use Rattle.dm_words.specs.declared.explore.Exploration.{Exploration}
+pub use Rattle.dm_words.specs.Request.{Chart, Check, Count, Drill, Explain, Explore, Judge, OwnDrill, Request, Run, Look, CheckLabels}
 pub use Rattle.dm_words.specs.LookWords.{groups_of, look_command, look_request, looking}
 pub use Rattle.dm_words.specs.RunWords.{run_command}
 pub use Rattle.dm_words.specs.Words.{AreTaken, HasShape, IsTaken, bare, demosmp, request_at, request_of, request_said}

@@ -1,20 +1,26 @@
 -- The numbers of a drill that words ask for are in their ranges.
 use Rattle.std.proofs.Common.{◌≡◌, ◌≤◌, ℕ, Bool, true, false, List, [], ◌∷◌, refl, arith}
 use Rattle.std.proofs.lemmas.Bool.Decides.{nat_tests}
-use Rattle.std.specs.Prelude.{Option, Some, None, ⊤, nat_le, ◌&&◌, if◌then◌else◌, option_and_then, codes}
+use Rattle.std.specs.Prelude.{Option, Some, None, ⊤, nat_le, ◌&&◌, if◌then◌else◌, option_and_then, option_map, codes}
+use Rattle.std.specs.Option.{option_map_or}
 use Rattle.std.specs.Str.{bytes_eq}
 use Rattle.clap.specs.Walk.{Row, first_of, is_empty}
 use Rattle.clap.specs.Simple.{subcommand_of}
 use Rattle.clap.specs.Faults.{fault_of}
 use Rattle.dm_text.specs.Reading.{read_u32, read_u8}
-use Rattle.dm_words.specs.ChartWords.{chart_request}
+use Rattle.dm_words.specs.ChartWords.{chart_request, charting, group_in, takes_chart}
 use Rattle.dm_words.specs.CheckWords.{check_request, checking}
 use Rattle.dm_words.specs.CountWords.{count_request}
 use Rattle.dm_words.specs.DrillWords.{IsWithin, OwnIsWithin, drawn_by, drill_by, drill_request, if_within, lines_asked, machines_asked, own_by, run_by, schedule_of, seed_of, shows_by, trace_of}
 use Rattle.dm_draw.specs.declared.drill.Shows.{Shows}
 use Rattle.dm_words.specs.ExplainWords.{explaining}
 use Rattle.dm_words.specs.FileWords.{both_files}
-use Rattle.dm_words.specs.Request.{Request, Chart, Check, Count, Drill, Explain, Judge, OwnDrill, Run, Look, CheckLabels}
+use Rattle.dm_words.specs.ExploreWords.{ExploreIsWithin, acks_of, depth_of, exploration_of, explore_request, exploring, few_of, listed, looking_for, most_in, most_of}
+use Rattle.dm_words.specs.Written.{written_move, written_name}
+use Rattle.dm_words.specs.declared.explore.Exploration.{Exploration}
+use Rattle.dm_words.specs.declared.explore.WrittenMove.{WrittenMove}
+use Rattle.dm_words.specs.declared.explore.WrittenName.{WrittenName}
+use Rattle.dm_words.specs.Request.{Request, Chart, Check, Count, Drill, Explain, Explore, Judge, OwnDrill, Run, Look, CheckLabels}
 use Rattle.dm_words.specs.LookWords.{groups_of, look_request, looking}
 use Rattle.dm_words.specs.RunWords.{run_request}
 use Rattle.dm_words.specs.Words.{Command, commands, demosmp, request_at, request_in, request_of}
@@ -25,11 +31,12 @@ Fits None = ⊤
 Fits (Some (Run boot schedule)) = ⊤
 Fits (Some (Check boot trace)) = ⊤
 Fits (Some (CheckLabels boot labels)) = ⊤
-Fits (Some (Chart boot schedule)) = ⊤
+Fits (Some (Chart boot schedule first last)) = ⊤
 Fits (Some (Explain boot schedule)) = ⊤
 Fits (Some (Judge boot trace)) = ⊤
 Fits (Some (Count boot schedule)) = ⊤
 Fits (Some (Look boot schedule groups)) = ⊤
+Fits (Some (Explore boot line exploration)) = ExploreIsWithin exploration
 Fits (Some (Drill drill)) = IsWithin drill
 Fits (Some (OwnDrill boot drill)) = OwnIsWithin drill
 
@@ -98,8 +105,15 @@ run_fits rows = both_fit (λ boot schedule. Run boot schedule) (first_of (codes 
 check_fits : (rows : List Row) → Fits (check_request rows)
 check_fits rows = checking_fits (first_of (codes "boot") rows) (first_of (codes "trace") rows) (first_of (codes "labels") rows)
 
+charting_fits : (boot schedule : Option (List ℕ)) (taken : Bool) (first last : Option ℕ) → Fits (charting boot schedule taken first last)
+charting_fits (Some boot) (Some schedule) true first last = tt
+charting_fits (Some boot) (Some schedule) false first last = tt
+charting_fits (Some boot) None taken first last = tt
+charting_fits None schedule taken first last = tt
+
 chart_fits : (rows : List Row) → Fits (chart_request rows)
-chart_fits rows = both_fit (λ boot schedule. Chart boot schedule) (first_of (codes "boot") rows) (first_of (codes "schedule") rows) (λ x y. tt)
+chart_fits rows =
+    charting_fits (first_of (codes "boot") rows) (first_of (codes "schedule") rows) (takes_chart rows) (option_and_then group_in (first_of (codes "from") rows)) (option_and_then group_in (first_of (codes "to") rows))
 
 count_fits : (rows : List Row) → Fits (count_request rows)
 count_fits rows = both_fit (λ boot schedule. Count boot schedule) (first_of (codes "boot") rows) (first_of (codes "schedule") rows) (λ x y. tt)
@@ -113,6 +127,61 @@ looking_fits None schedule groups = tt
 look_fits : (rows : List Row) → Fits (look_request rows)
 look_fits rows = looking_fits (first_of (codes "boot") rows) (first_of (codes "schedule") rows) (groups_of rows)
 
+-- what is explored has its numbers in their ranges
+abbrev ExploresWithin : Option Exploration → Type 0
+ExploresWithin None = ⊤
+ExploresWithin (Some e) = ExploreIsWithin e
+
+abbrev HasLeast : Option ℕ → Type 0
+HasLeast None = ⊤
+HasLeast (Some n) = 1 ≤ n
+
+least_in : (n : ℕ) (b : Bool) → nat_le 1 n ≡ b → HasLeast (if b then Some n else None)
+least_in n true e = below 1 n e
+least_in n false e = tt
+
+least_read : (o : Option ℕ) → HasLeast (option_and_then (λ n. if nat_le 1 n then Some n else None) o)
+least_read None = tt
+least_read (Some n) = least_in n (nat_le 1 n) refl
+
+least_most : (word : Option (List ℕ)) → HasLeast (option_map_or most_in word (Some 1000000))
+least_most None = below 1 1000000 refl
+least_most (Some w) = least_read (read_u32 w)
+
+-- what the numbers and names make, where all are there
+abbrev explored_by : Option ℕ → Option ℕ → Option (List (Option WrittenName)) → Option (List (Option WrittenMove)) → Option (List (Option WrittenMove)) → Option ℕ → Option ℕ → Bool → Option Exploration
+explored_by depth most stuck moves calls ticks repeats acks =
+    option_and_then (λ depth. option_and_then (λ most. option_and_then (λ stuck. option_and_then (λ moves. option_and_then (λ calls.
+    option_and_then (λ ticks. option_map (λ repeats.
+    record { depth = depth; most = most; stuck = stuck; moves = moves; call_offs = calls; ticks = ticks; repeats = repeats; acks = acks })
+    repeats) ticks) calls) moves) stuck) most) depth
+
+explored_within : (depth most : Option ℕ) (stuck : Option (List (Option WrittenName))) (moves calls : Option (List (Option WrittenMove))) (ticks repeats : Option ℕ) (acks : Bool)
+    → IsBetween 1 64 depth → HasLeast most → ExploresWithin (explored_by depth most stuck moves calls ticks repeats acks)
+explored_within None most stuck moves calls ticks repeats acks h k = tt
+explored_within (Some d) None stuck moves calls ticks repeats acks h k = tt
+explored_within (Some d) (Some m) None moves calls ticks repeats acks h k = tt
+explored_within (Some d) (Some m) (Some x) None calls ticks repeats acks h k = tt
+explored_within (Some d) (Some m) (Some x) (Some y) None ticks repeats acks h k = tt
+explored_within (Some d) (Some m) (Some x) (Some y) (Some z) None repeats acks h k = tt
+explored_within (Some d) (Some m) (Some x) (Some y) (Some z) (Some t) None acks h k = tt
+explored_within (Some d) (Some m) (Some x) (Some y) (Some z) (Some t) (Some r) acks h k = record { least = h.0; most = h.1; some = k }
+
+exploring_fits : (boot line : Option (List ℕ)) (e : Option Exploration) → ExploresWithin e → Fits (exploring boot line e)
+exploring_fits (Some boot) line (Some e) h = if_there (looking_for line e)
+  where
+    if_there : (b : Bool) → Fits (if b then Some (Explore boot line e) else None)
+    if_there true = h
+    if_there false = tt
+exploring_fits (Some boot) line None h = tt
+exploring_fits None line e h = tt
+
+explore_fits : (rows : List Row) → Fits (explore_request rows)
+explore_fits rows =
+    exploring_fits (first_of (codes "boot") rows) (first_of (codes "line") rows) (exploration_of rows)
+    (explored_within (depth_of rows) (most_of rows) (listed written_name (codes "stuck") rows) (listed written_move (codes "move") rows) (listed written_move (codes "calloff") rows)
+    (few_of (codes "ticks") rows) (few_of (codes "repeats") rows) (acks_of rows) (named (first_of (codes "depth") rows) read_u8 1 64) (least_most (first_of (codes "most") rows)))
+
 drill_fits_by : (boot machines : Option (List ℕ)) (rows : List Row) → Fits (drill_by boot machines rows)
 drill_fits_by None machines rows =
     run_fits_by (schedule_of rows) (trace_of rows) (seed_of rows) (machines_asked rows) (lines_asked rows) (named (first_of (codes "machines") rows) read_u8 2 16) (named (first_of (codes "lines") rows) read_u32 1 10000)
@@ -124,7 +193,7 @@ drill_fits rows = drill_fits_by (first_of (codes "boot") rows) (first_of (codes 
 
 -- a row a command
 commands_fit : AllFit commands
-commands_fit = (run_fits, (check_fits, (chart_fits, (λ rows. explain_fits (first_of (codes "boot") rows) (first_of (codes "schedule") rows) (first_of (codes "trace") rows), (count_fits, (look_fits, (drill_fits, tt)))))))
+commands_fit = (run_fits, (check_fits, (chart_fits, (λ rows. explain_fits (first_of (codes "boot") rows) (first_of (codes "schedule") rows) (first_of (codes "trace") rows), (count_fits, (look_fits, (explore_fits, (drill_fits, tt))))))))
 
 if_fits : (b : Bool) (x y : Option Request) → Fits x → Fits y → Fits (if b then x else y)
 if_fits true x y h k = h

@@ -1,11 +1,17 @@
 -- What was wrong with words, word by word.
-use Rattle.std.proofs.Common.{◌≡◌, ℕ, Bool, true, false, if◌then◌else◌, List, [], ◌∷◌, map, refl, ap, sym, ◌∙◌, ◌||◌}
-use Rattle.std.specs.List.{list_any}
+use Rattle.std.proofs.Common.{◌≡◌, ℕ, ◌+◌, Bool, true, false, cond, if◌then◌else◌, List, [], ◌∷◌, map, refl, ap, sym, ◌∙◌, ◌&&◌, ◌||◌}
+use Rattle.std.proofs.lemmas.List.Sums.{sum_by-cons}
+use Rattle.std.specs.List.{count_by, list_any}
 use Rattle.std.specs.declared.option.Option.{Option}
 use Rattle.std.specs.declared.option.Option.TheVariants.{None, Some}
-use Rattle.dm_words.specs.declared.usage.Form.{Form}
-use Rattle.dm_words.specs.declared.usage.OptionName.{OptionName}
-use Rattle.dm_words.specs.Usage.{Wrong, On, at_end, behind_name, command_told, form_named, names, on, step, usage_pieces, value_among, value_here, value_of, walk}
+use Rattle.dm_words.specs.declared.form.Form.{Form}
+use Rattle.dm_words.specs.declared.option.OptionName.{OptionName}
+use Rattle.dm_words.specs.Usage.{Wrong, On, at_end, bad_value_of, behind_name, command_told, form_named, is_bad_value, names, on, step, usage_pieces, value_among, value_here, value_of, walk}
+
+pub count-map : {X A : Type 0} (p : A → Bool) (f : X → A) (xs : List X) → count_by (λ x. p (f x)) xs ≡ count_by p (map f xs)
+count-map p f [] = refl
+count-map p f (x ∷ xs) =
+    sum_by-cons (λ y. cond (p (f y)) 1 0) x xs ∙ (ap (λ n. cond (p (f x)) 1 0 + n) (count-map p f xs) ∙ sym (sum_by-cons (λ y. cond (p y) 1 0) (f x) (map f xs)))
 
 pub any-map : {X A : Type 0} (p : A → Bool) (f : X → A) (xs : List X) → list_any (λ x. p (f x)) xs ≡ list_any p (map f xs)
 any-map p f [] = refl
@@ -28,6 +34,20 @@ among-none ws none = ap (value_among None) none
 
 pub among-some : (ws : List (List ℕ)) (v : List ℕ) (rest : List (List ℕ)) → ws ≡ v ∷ rest → value_among None ws ≡ Some v
 among-some ws v rest is = ap (value_among None) is
+
+pub bad-none : (o : OptionName) (ws : List (List ℕ)) → ws ≡ [] → bad_value_of o ws ≡ None
+unfolding bad_value_of
+bad-none o ws none = ap (bad_value_of o) none
+
+pub bad-later : (o : OptionName) (ws : List (List ℕ)) (w : List ℕ) (rest : List (List ℕ)) → ws ≡ w ∷ rest → (names o w && is_bad_value o (value_here w rest)) ≡ false → bad_value_of o ws ≡ bad_value_of o rest
+unfolding bad_value_of
+bad-later o ws w rest is other = ap (bad_value_of o) is ∙ ap (λ (b : Bool). if b then value_here w rest else bad_value_of o rest) other
+
+pub bad-first : (o : OptionName) (ws : List (List ℕ)) (w : List ℕ) (rest : List (List ℕ)) → ws ≡ w ∷ rest → (names o w && is_bad_value o (value_here w rest)) ≡ true → bad_value_of o ws ≡ value_here w rest
+unfolding bad_value_of
+bad-first o ws w rest is named = ap (bad_value_of o) is ∙ ap (λ (b : Bool). if b then value_here w rest else bad_value_of o rest) named
+
+pub ruleset bad_lemmas = (bad-none, bad-later, bad-first)
 
 pub ruleset value_lemmas = (value-none, value-later, value-first, among-none, among-some)
 

@@ -8,6 +8,8 @@ pub mod ChartWords
 pub mod ExplainWords
 pub mod CountWords
 pub mod LookWords
+pub mod Written
+pub mod ExploreWords
 pub mod Usage
 pub mod Said
 pub mod Words

@@ -4,8 +4,8 @@ use Rattle.dm_ending.specs.declared.status.Input.{Input}
 use Rattle.dm_ending.specs.declared.status.Input.TheVariants as input
 use Rattle.dm_ending.specs.declared.status.Status.{Status}
 use Rattle.dm_ending.specs.declared.status.Status.TheVariants as status
-use Rattle.dm_words.specs.declared.usage.OptionName.{OptionName}
-use Rattle.dm_words.specs.declared.usage.OptionName.TheVariants as option
+use Rattle.dm_words.specs.declared.option.OptionName.{OptionName}
+use Rattle.dm_words.specs.declared.option.OptionName.TheVariants as option
 use Rattle.dm_words.specs.Usage.{command_lines, or_nothing, told, usage_pieces, value_of}
 
 -- the option that names a file
@@ -51,3 +51,5 @@ said_pieces ws (status.TooLong i) = too_long_pieces i (file_told i ws)
 said_pieces ws (status.Worn from to) = no_pieces
 said_pieces ws (status.TraceRefused line why) = no_pieces
 said_pieces ws (status.LabelsRefused line) = no_pieces
+said_pieces ws status.NotFound = no_pieces
+said_pieces ws status.Undecided = no_pieces

@@ -10,12 +10,13 @@ use Rattle.clap.specs.Built.{AddsSubcommand}
 use Rattle.clap.specs.declared.builder.command.Command.{Command as TheCommand}
 use Rattle.dm_words.specs.declared.words.Request.{Request as TheRequest}
 use Rattle.dm_words.specs.declared.words.Request.TheVariants as the
-use Rattle.dm_words.specs.Request.{Request, Chart, Check, Count, Drill, Explain, Judge, OwnDrill, Run, Look, CheckLabels}
-use Rattle.dm_words.specs.ChartWords.{chart_command, chart_request}
+use Rattle.dm_words.specs.Request.{Request, Chart, Check, Count, Drill, Explain, Explore, Judge, OwnDrill, Run, Look, CheckLabels}
+use Rattle.dm_words.specs.ChartWords.{chart_command, chart_request, takes_chart}
 use Rattle.dm_words.specs.CheckWords.{check_command, check_request, has_just_one}
 use Rattle.dm_words.specs.CountWords.{count_command, count_request}
 use Rattle.dm_words.specs.DrillWords.{IsWithin, OwnIsWithin, drill_command, drill_request, takes_drill}
 use Rattle.dm_words.specs.ExplainWords.{explain_command, explain_request, takes_explain}
+use Rattle.dm_words.specs.ExploreWords.{ExploreIsWithin, explore_command, explore_request, takes_explore}
 use Rattle.dm_words.specs.LookWords.{has_groups, look_command, look_request}
 use Rattle.dm_words.specs.RunWords.{run_command, run_request}
 
@@ -34,10 +35,11 @@ abbrev pub commands : List Command
 commands =
     record { shape = run_command; takes = any; request = run_request } ∷
     record { shape = check_command; takes = has_just_one; request = check_request } ∷
-    record { shape = chart_command; takes = any; request = chart_request } ∷
+    record { shape = chart_command; takes = takes_chart; request = chart_request } ∷
     record { shape = explain_command; takes = takes_explain; request = explain_request } ∷
     record { shape = count_command; takes = any; request = count_request } ∷
     record { shape = look_command; takes = has_groups; request = look_request } ∷
+    record { shape = explore_command; takes = takes_explore; request = explore_request } ∷
     record { shape = drill_command; takes = takes_drill; request = drill_request } ∷ []
 
 abbrev pub with_commands : App → List Command → App
@@ -88,11 +90,12 @@ abbrev pub request_said : TheRequest → Request
 request_said (the.Run boot schedule) = Run boot.now schedule.now
 request_said (the.Check boot trace) = Check boot.now trace.now
 request_said (the.CheckLabels boot labels) = CheckLabels boot.now labels.now
-request_said (the.Chart boot schedule) = Chart boot.now schedule.now
+request_said (the.Chart boot schedule first last) = Chart boot.now schedule.now first last
 request_said (the.Explain boot schedule) = Explain boot.now (option_map (λ s. s.now) schedule)
 request_said (the.Judge boot trace) = Judge boot.now trace.now
 request_said (the.Count boot schedule) = Count boot.now schedule.now
 request_said (the.Look boot schedule groups) = Look boot.now schedule.now groups
+request_said (the.Explore boot line exploration) = Explore boot.now (option_map (λ s. s.now) line) exploration
 request_said (the.Drill drill) = Drill drill
 request_said (the.OwnDrill boot drill) = OwnDrill boot.now drill
 
@@ -101,10 +104,11 @@ abbrev pub IsInRange : TheRequest → Type 0
 IsInRange (the.Run boot schedule) = ⊤
 IsInRange (the.Check boot trace) = ⊤
 IsInRange (the.CheckLabels boot labels) = ⊤
-IsInRange (the.Chart boot schedule) = ⊤
+IsInRange (the.Chart boot schedule first last) = ⊤
 IsInRange (the.Explain boot schedule) = ⊤
 IsInRange (the.Judge boot trace) = ⊤
 IsInRange (the.Count boot schedule) = ⊤
 IsInRange (the.Look boot schedule groups) = ⊤
+IsInRange (the.Explore boot line exploration) = ExploreIsWithin exploration
 IsInRange (the.Drill drill) = IsWithin drill
 IsInRange (the.OwnDrill boot drill) = OwnIsWithin drill

@@ -3,7 +3,9 @@ ghost use Rattle.std.specs.Prelude.{◌≡◌, map, string_bytes};
 ghost use Rattle.dm_words.specs.Said.{file_pieces, file_told, most_bytes, no_pieces, option_for, said_pieces, too_long_pieces, unread_pieces};
 ghost use Rattle.dm_words.specs.Usage.{pieces_of};
 
-use crate::usage::{Fault, OptionName, Said, command_lines, usage_of, value_of};
+use crate::option::OptionName;
+use crate::usage::{Fault, Said, command_lines, usage_of};
+use crate::walk::value_of;
 use dm_ending::status::{Input, Status};
 
 /// What is said before the line of a status.

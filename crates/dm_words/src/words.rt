@@ -6,13 +6,14 @@ ghost use Rattle.dm_words.specs.Refused.{status_of_no};
 ghost use Rattle.dm_words.specs.CheckWords.{check_command as check_shape, check_request as check_asked, checking};
 ghost use Rattle.clap.specs.Walk.{first_of};
 ghost use Rattle.dm_words.specs.DrillWords.{drill_command as drill_shape, drill_request as drill_asked, flag_option, lines_in, lines_asked, machines_in, machines_asked, number_option, own_by, run_by, schedule_of, seed_of, shows_by, trace_of};
-ghost use Rattle.dm_words.specs.ChartWords.{chart_request as chart_asked};
 ghost use Rattle.dm_words.specs.CountWords.{count_request as count_asked};
 ghost use Rattle.dm_words.specs.ExplainWords.{explain_command as explain_shape, explain_request as explain_asked, explaining};
 ghost use Rattle.dm_words.specs.FileWords.{file_command as file_shape, file_option, free_option};
 ghost use Rattle.dm_words.specs.RunWords.{run_request as run_asked};
 ghost use Rattle.dm_words.specs.Words.{HasShape, IsInRange, IsTaken, bare, demosmp, request_at, request_of, request_said};
 
+use crate::chart::{chart_command, chart_request};
+use crate::explore::{Exploration, explore_command, explore_request};
 use crate::look::{look_command, look_request};
 use clap::{Arg, ArgAction, ArgMatches, Command};
 use dm_draw::drill::{Drill, OwnDrill, Shows};
@@ -65,10 +66,13 @@ pub enum Request<'a> {
         boot: &'a str,
         labels: &'a str,
     },
-    /// To draw the run of the schedule of a file on the system of a boot file.
+    /// To draw the run of the schedule of a file on the system of a boot file: the groups from a number to a number, where these
+    /// are there.
     Chart {
         boot: &'a str,
         schedule: &'a str,
+        first: Option<u32>,
+        last: Option<u32>,
     },
     /// To say what a boot file says, and a schedule where there is one, or what is wrong with them.
     Explain {
@@ -90,6 +94,12 @@ pub enum Request<'a> {
         boot: &'a str,
         schedule: &'a str,
         groups: u32,
+    },
+    /// To look through the schedules of the system of a boot file, for a line or for processes that get stuck.
+    Explore {
+        boot: &'a str,
+        line: Option<&'a str>,
+        exploration: Exploration,
     },
     /// To do a drill: its machines are 2 to 16, its directives 1 to 10,000.
     Drill(Drill),
@@ -127,11 +137,12 @@ fn command<'a>(alloc: Global) -> Result<Command<'a>, NoMemory>
 {
     let one = with_command(bare(alloc), file_command(alloc, "run", "boot", "schedule"))?;
     let two = with_command(one, check_command(alloc))?;
-    let three = with_command(two, file_command(alloc, "chart", "boot", "schedule"))?;
+    let three = with_command(two, chart_command(alloc))?;
     let four = with_command(three, explain_command(alloc))?;
     let five = with_command(four, file_command(alloc, "count", "boot", "schedule"))?;
     let six = with_command(five, look_command(alloc))?;
-    with_command(six, drill_command(alloc))
+    let seven = with_command(six, explore_command(alloc))?;
+    with_command(seven, drill_command(alloc))
 }
 
 /// The command line of the program, before its commands.
@@ -208,7 +219,7 @@ pub(crate) fn file<'a>(alloc: Global, name: &'a str) -> Arg<'a>
 }
 
 /// The option `--name FILE`, which may be there.
-fn free<'a>(alloc: Global, name: &'a str) -> Arg<'a>
+pub(crate) fn free<'a>(alloc: Global, name: &'a str) -> Arg<'a>
     ensures rule { rule_of result ≡ free_option name.now }
     ensures local { result.global ≡ false }
 {
@@ -224,7 +235,7 @@ pub(crate) fn number<'a>(alloc: Global, name: &'a str) -> Arg<'a>
 }
 
 /// The option `--name`, which may be there.
-fn flag<'a>(alloc: Global, name: &'a str) -> Arg<'a>
+pub(crate) fn flag<'a>(alloc: Global, name: &'a str) -> Arg<'a>
     ensures rule { rule_of result ≡ flag_option name.now }
     ensures local { result.global ≡ false }
 {
@@ -264,6 +275,9 @@ fn request_of_command<'a>(name: &str, found: &ArgMatches<'a>) -> Option<Request<
     }
     if name == "look" {
         return look_request(found);
+    }
+    if name == "explore" {
+        return explore_request(found);
     }
     if name == "drill" {
         return drill_request(found);
@@ -306,15 +320,6 @@ fn checking<'a>(
         (None, Some(labels)) => Some(Request::CheckLabels { boot, labels }),
         _ => None,
     }
-}
-
-/// The two files that the matches of `chart` name.
-fn chart_request<'a>(matches: &ArgMatches<'a>) -> Option<Request<'a>>
-    ensures { option_map request_said result ≡ chart_asked (rows_of (found_of matches.now)) }
-{
-    let boot = matches.get_str("boot")?;
-    let schedule = matches.get_str("schedule")?;
-    Some(Request::Chart { boot, schedule })
 }
 
 /// The file that the matches of `explain` name, and the schedule or the trace where they name one of them.

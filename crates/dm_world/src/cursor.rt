@@ -1,14 +1,14 @@
 //! How far a directive has come, and which elementary one comes next.
-ghost use Rattle.std.specs.Prelude.{◌≡◌, ◌∷◌, ◌+◌, ◌<◌, ℕ, List, None, Some, IfSome, length};
+ghost use Rattle.std.specs.Prelude.{◌≡◌, ◌+◌, ◌<◌, List, None, Some, IfSome, length};
 ghost use Rattle.dm_schedule.specs.declared.Directive.{Directive as TheDirective};
-ghost use Rattle.dm_line.specs.Todo.{Seen, Two, all_of, following, is_over, takes_turn};
-ghost use Rattle.dm_world.specs.Cursor.{Falls, FirstIs, FirstTurnIs, InPassIs, IsFresh, NextIs, NextPassIs, RoundGoes, RowIs, TakesTurn, pairs_at, todo_of};
+ghost use Rattle.dm_line.specs.Todo.{Two, is_over, takes_turn};
+ghost use Rattle.dm_world.specs.Cursor.{Falls, FirstIs, FirstTurnIs, InPassIs, IsFresh, NextIs, NextPassIs, RoundGoes, RowIs, TakesTurn, pairs_at};
 ghost use Rattle.dm_world.specs.Meets.{IsWorld, world_state};
 ghost use Rattle.dm_world.specs.Next.{world_seen};
 
 use crate::world::World;
 use dm_line::pass::Pass;
-use dm_schedule::{Directive, Step};
+use dm_schedule::Step;
 
 /// How far a directive has come.
 #[derive(Clone, Copy)]
@@ -31,20 +31,6 @@ pub enum Place {
 }
 
 impl Cursor {
-    /// Nothing of the directive is done yet.
-    pub fn new(directive: &Directive) -> Cursor
-        ensures { (n : ℕ) (seen : Seen) (ds : List TheDirective) →
-            following n seen (todo_of n result ds) ≡ following n seen (all_of (directive.now ∷ ds)) }
-    {
-        match *directive {
-            Directive::One(step) => Cursor::One(step),
-            Directive::Round => Cursor::behind(Pass::Round(1)),
-            Directive::Spin(rounds) => Cursor::behind(Pass::Round(rounds)),
-            Directive::Settle => Cursor::behind(Pass::Settle),
-            Directive::Rest(passes) => Cursor::behind(Pass::Rest(passes)),
-        }
-    }
-
     /// Only what comes behind a pass is left.
     fn behind(pass: Pass) -> Cursor
         ensures { result ≡ Cursor.Passing pass Place.End }

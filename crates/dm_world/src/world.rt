@@ -1,5 +1,5 @@
 //! All machines and the wires between them.
-ghost use Rattle.std.specs.Prelude.{◌≡◌, ◌<◌, ◌≤◌, ℕ, IfOk, Some, false, length, slice_get};
+ghost use Rattle.std.specs.Prelude.{◌≡◌, ◌<◌, ◌≤◌, ℕ, IfOk, OnOk, Some, false, length, slice_get};
 ghost use Rattle.dm_onekernel.specs.Boot.{IsValid};
 ghost use Rattle.dm_node.specs.declared.node.Node.{Node as TheNode};
 ghost use Rattle.dm_node.specs.Meets as node;
@@ -57,6 +57,22 @@ impl World {
             groups: 0,
             stopped: false,
         })
+    }
+
+    /// The system of its boot file once more, before its first directive. It may have stopped. Where memory lacks it is as it was.
+    pub fn restart(&mut self) -> Result<(), NoMemory>
+        requires { IsValid self.old.boot }
+        ensures state { OnOk result (world_state self.new ≡ first_world self.old.boot) }
+        ensures world { OnOk result (IsWorld self.new) }
+        ensures boot { self.new.boot ≡ self.old.boot }
+        ensures running { OnOk result (self.new.stopped ≡ false) }
+    {
+        self.nodes = open_all(self.alloc, &self.boot)?;
+        self.wires = Wire::new(self.alloc);
+        self.ended = BTreeMap::new(self.alloc);
+        self.groups = 0;
+        self.stopped = false;
+        Ok(())
     }
 
     /// Whether it stopped before the end of a directive.

@@ -1,10 +1,11 @@
-use Rattle.dm_commands.proofs.Names.{rules, ◌≡◌, List, ℕ, map, refl, subst, sym, request_of}
+use Rattle.dm_commands.proofs.Names.{rules, ◌≡◌, List, ℕ, map, refl, subst, sym, request_of, NoMemory, Usage}
 use Rattle.std.specs.Prelude.{string_bytes}
 use Rattle.dm_words.proofs.Ranges.{asked_fits}
 use Rattle.dm_words.specs.Words.{IsTaken}
 use Rattle.dm_program.proofs.ByRule.{program_lacks}
 use Rattle.dm_program.proofs.NoWords.{no_words}
 use Rattle.dm_commands.proofs.Saying.{silent_lack}
+use Rattle.dm_commands.specs.Explores.{RefusesTaken}
 use Rattle.dm_commands.specs.Firsts.{SaysFirst}
 use Rattle.dm_commands.specs.Outside.{around, shelf_around, sink_around}
 use Rattle.dm_program.specs.Program.{ProgramMeets}
@@ -35,7 +36,10 @@ returns-in-Err-clause-said g c = rw c.in-Err.is c.new.ensures.items
 pub returns-in-Ok-texts-clause-refused : goal.returns-in-Ok-texts-clause-refused
 returns-in-Ok-texts-clause-refused g c =
     let e : map (λ w. w.now) c.as_slice-in-Ok-texts.result.now ≡ map string_bytes c.in-Ok.words.items = search rules in
-    rw c.in-Ok.is (λ usage taken. c.run_program.ensures.refused usage (subst IsTaken (sym e) taken))
+    rw c.in-Ok.is (λ usage taken. subst (λ (w : List (List ℕ)). RefusesTaken (g.F.Shelf.told c.args.shelf.now) (request_of w)) e (c.run_program.ensures.refused usage (subst IsTaken (sym e) taken)))
+
+pub returns-in-Err-texts-clause-refused : goal.returns-in-Err-texts-clause-refused
+returns-in-Err-texts-clause-refused g c = rw c.in-Ok.is (λ usage taken. let f : NoMemory c.in-Err-texts.no ≡ Usage = usage in absurd cc)
 
 pub returns-in-Err-clause-meets : goal.returns-in-Err-clause-meets
 returns-in-Err-clause-meets g c = rw c.in-Err.is (no_words c.in-Err.no _ _ c.status.result c.status.ensures (record { unread = refl; unwritten = refl; no_world = refl }))

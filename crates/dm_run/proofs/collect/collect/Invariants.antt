@@ -7,7 +7,7 @@ invariant-groups l = record {
   running : l.world.stopped ≡ false;
   boot : l.world.boot ≡ l.initial.world.boot;
   within : l.way.begun ≤ length l.directives;
-  come : HasCome l.initial.world.boot l.directives (Keeps l.kept) l.way (world_state l.world);
+  come : HasCome l.initial.world.boot l.directives (Keeps l.initial.kept.part l.kept) l.way (world_state l.world);
   rows : l.kept.rows ≤ 1200;
 }
 

@@ -1,0 +1,14 @@
+pub mod Notes
+pub mod Standing
+pub mod Below
+pub mod Beginnings
+pub mod Offering
+pub mod Ways
+pub mod Fitting
+pub mod Searching
+pub mod Redoing
+pub mod Going
+pub mod Looking
+pub mod Lengths
+pub mod Judging
+pub mod Telling

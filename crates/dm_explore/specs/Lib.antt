@@ -1,0 +1,12 @@
+pub mod Sights
+pub mod Asked
+pub mod Past
+pub mod Noted
+pub mod Order
+pub mod Choices
+pub mod Offered
+pub mod Places
+pub mod Finds
+pub mod Answers
+pub mod AnswerText
+pub mod Search

@@ -1,0 +1,7 @@
+-- What was found of the words so far, with what the others say.
+use Rattle.dm_words.specs.Written.{written_move}
+use Rattle.dm_words.proofs.Places.{ReadUpTo}
+use Rattle.dm_words.proofs.explore.each_move.Given as goal
+
+abbrev pub invariant-loop-place : goal.invariant-loop-place
+invariant-loop-place l = ReadUpTo written_move (λ w. w.now) l.words l.place l.found

@@ -1,0 +1,11 @@
+-- What is left has the value.
+use Rattle.std.proofs.Common.{◌≡◌, length, map}
+use Rattle.std.specs.Prelude.{string_bytes}
+use Rattle.dm_words.specs.Usage.{value_of}
+use Rattle.dm_words.proofs.walk.value_of.Given as goal
+
+abbrev pub invariant-loop-word : goal.invariant-loop-word
+invariant-loop-word l = value_of l.option (map string_bytes l.rest) ≡ value_of l.option (map string_bytes l.words)
+
+abbrev pub decreases-loop-word : goal.decreases-loop-word
+decreases-loop-word l = length l.rest

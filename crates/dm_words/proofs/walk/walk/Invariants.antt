@@ -1,0 +1,11 @@
+-- What is wrong is so in what is left.
+use Rattle.std.proofs.Common.{◌≡◌, length, map, None}
+use Rattle.std.specs.Prelude.{string_bytes}
+use Rattle.dm_words.specs.Usage.{walk}
+use Rattle.dm_words.proofs.walk.walk.Given as goal
+
+abbrev pub invariant-loop-word : goal.invariant-loop-word
+invariant-loop-word l = walk l.form l.waits (map string_bytes l.rest) ≡ walk l.form None (map string_bytes l.words)
+
+abbrev pub decreases-loop-word : goal.decreases-loop-word
+decreases-loop-word l = length l.rest

@@ -1,0 +1,12 @@
+-- What is left of the text are words as far as all of it.
+use Rattle.std.proofs.Common.{◌≡◌}
+use Rattle.std.specs.Option.{option_map}
+use Rattle.dm_reading.specs.Cuts.{behind}
+use Rattle.dm_words.specs.Written.{are_words, is_text}
+use Rattle.dm_words.proofs.written.is_text.Given as goal
+
+abbrev pub invariant-loop-rest : goal.invariant-loop-rest
+invariant-loop-rest l = are_words l.left (behind 32 (option_map (λ t. t.now) l.rest)) ≡ is_text l.text
+
+abbrev pub decreases-loop-rest : goal.decreases-loop-rest
+decreases-loop-rest l = l.left

@@ -1,0 +1,40 @@
+-- Numbers, processes and texts as the words of `explore` have them.
+use Rattle.std.specs.Prelude.{ℕ, ◌+◌, Bool, true, false, ◌==◌, ◌&&◌, nat_le, nat_lt, List, [], ◌∷◌, drop, length, take}
+use Rattle.std.specs.List.{list_all, position}
+use Rattle.std.specs.Option.{option_and_then, option_map}
+use Rattle.std.specs.declared.option.Option.{Option}
+use Rattle.dm_reading.specs.Cuts.{pieces}
+use Rattle.dm_link.specs.declared.Pid.{Pid}
+use Rattle.dm_schedule.specs.Numbers.{number_of_word, process_of}
+use Rattle.dm_words.specs.declared.explore.WrittenMove.{WrittenMove}
+use Rattle.dm_words.specs.declared.explore.WrittenName.{WrittenName}
+
+abbrev pub is_filled : List ℕ → Bool
+is_filled w = nat_lt 0 (length w)
+
+-- words, and so many at most
+unfoldable pub are_words : ℕ → List (List ℕ) → Bool
+are_words most ws = list_all is_filled ws && nat_le (length ws) most
+
+-- one to eight words, with one blank between
+abbrev pub is_text : List ℕ → Bool
+is_text text = are_words 8 (pieces 32 text)
+
+-- a process as a schedule has it, whatever machines there are
+abbrev pub as_written : Pid → WrittenName
+as_written p = record { home = p.home; num = p.num }
+
+abbrev pub written_name : List ℕ → Option WrittenName
+written_name word = option_map as_written (process_of word)
+
+-- an equals sign
+abbrev pub is_equals : ℕ → Bool
+is_equals c = c == 61
+
+-- the move that a process and a number make, if both are there
+abbrev pub move_from : Option WrittenName → Option ℕ → Option WrittenMove
+move_from name machine = option_and_then (λ p. option_map (λ m. record { name = p; machine = m }) machine) name
+
+-- a process, an equals sign and a machine
+unfoldable pub written_move : List ℕ → Option WrittenMove
+written_move word = option_and_then (λ i. move_from (written_name (take i word)) (number_of_word (drop (i + 1) word))) (position is_equals word)
