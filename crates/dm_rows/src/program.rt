@@ -67,8 +67,8 @@ fn given(alloc: Global, words: &str) -> Result<Vec<String>, AllocError> {
     Ok(given)
 }
 
-/// Adds a word.
+/// Adds a word, in which a `~` stands for a space.
 fn push_word(alloc: Global, words: &mut Vec<String>, word: &str) -> Result<(), AllocError> {
-    words.push(String::from_str(alloc, word)?)?;
+    words.push(word.replace(alloc, '~', " ")?)?;
     Ok(())
 }
