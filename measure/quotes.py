@@ -1,13 +1,15 @@
 #!/usr/bin/env python3
-"""quotes.py: whether the printed lines that docs/MIGRATION.md quotes are those of the example that it tells.
+"""quotes.py: whether the printed lines that docs/MIGRATION.md quotes are those of the example that it tells; and whether each answer of
+`explore` that a page quotes (README.md, those of docs/) is that of a run of crates/dm_rows/data.
 
 A part of the page that tells a run has a heading that says `from its printed lines`, and names the run by `examples/NAME.toml`. What stands in backticks in the first column of its
 table are lines of examples/NAME.out, and in one row they stand behind one another there, perhaps with others between; so do the
 first lines of the rows. Prints each that isn't so with its place; the status is 1 if there is one, or if nothing is quoted."""
-import os, re, sys
+import glob, os, re, sys
 
 TOP = os.path.normpath(os.path.join(os.path.dirname(os.path.abspath(__file__)), ".."))
 PAGE = "docs/MIGRATION.md"
+ANSWER = r"# (?:found in \d+ directives|none within \d+ directives: \d+ schedules|undecided: \d+ schedules)"
 
 
 def read(path):
@@ -56,9 +58,23 @@ def faults(page):
         yield f"{PAGE} quotes no lines any more"
 
 
+def named(pattern):
+    return [os.path.relpath(path, TOP) for path in sorted(glob.glob(f"{TOP}/{pattern}"))]
+
+
+def wrong_answers():
+    """The answers that pages quote and no run has."""
+    stored = {read(path).split("\n")[0] for pattern in ("explore_*.out", "example_*.txt") for path in named(f"crates/dm_rows/data/{pattern}")}
+    for page in named("README.md") + named("docs/*.md"):
+        for number, line in enumerate(read(page).split("\n"), 1):
+            for answer in re.findall(ANSWER, line):
+                if answer not in stored:
+                    yield f"{page}:{number}: no run has this answer: {answer}"
+
+
 def main():
-    found = list(faults(read(PAGE)))
-    print(*found or ["what docs/MIGRATION.md quotes is printed, in that order"], sep="\n")
+    found = list(faults(read(PAGE))) + list(wrong_answers())
+    print(*found or ["what docs/MIGRATION.md quotes is printed, in that order, and each answer of `explore` is a run's"], sep="\n")
     return bool(found)
 
 
