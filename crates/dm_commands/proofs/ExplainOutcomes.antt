@@ -144,30 +144,6 @@ system_says files boot b text told is h = says_boot files boot b text.items (sys
 pub file_told : (files : Option Files) (boot file : List ℕ) (told : BootTold) → TellsFile files boot file told → TellsRead files boot told
 file_told files boot file told h = record { bytes = file; file = h.file; explains = h.explains }
 
-pub system_of_file : (files : Option Files) (boot file : List ℕ) (b : Boot) (text : Vec ℕ Global) (told : BootTold) → told ≡ told_as.System b text → TellsFile files boot file told → ExplainsFile files boot file b text.items
-system_of_file files boot file b text told is h =
-    let k : TellsFile files boot file (told_as.System b text) = subst (TellsFile files boot file) is h in
-    record { file = k.file; told = k.explains }
-
--- a system is said, and then what is said of a schedule
-both_told : (files : Option Files) (boot schedule file : List ℕ) (b : Boot) (first : List ℕ) (due : Status) (text : List ℕ) → ExplainsFile files boot file b first → TellsSchedule files schedule file b first due text → TellsFiles files boot (Some schedule) due text
-both_told files boot schedule file b first Done text system h = record { file = file; system = b; first = first; boot_told = system; schedule_told = h }
-both_told files boot schedule file b first (ScheduleRefused line why) text system h = record { file = file; system = b; first = first; boot_told = system; schedule_told = h }
-both_told files boot schedule file b first Usage text system h = absurd h.tells
-both_told files boot schedule file b first (ReadFault i) text system h = absurd h.tells
-both_told files boot schedule file b first (NoMemory lack) text system h = absurd h.tells
-both_told files boot schedule file b first WriteFault text system h = absurd h.tells
-both_told files boot schedule file b first (BootRefused number place) text system h = absurd h.tells
-both_told files boot schedule file b first (TooLong i) text system h = absurd h.tells
-both_told files boot schedule file b first (Worn from to) text system h = absurd h.tells
-both_told files boot schedule file b first (TraceRefused line why) text system h = absurd h.tells
-both_told files boot schedule file b first (LabelsRefused line) text system h = absurd h.tells
-both_told files boot schedule file b first NotFound text system h = absurd h.tells
-both_told files boot schedule file b first Undecided text system h = absurd h.tells
-
-pub both_read_told : (files between : Option Files) (boot schedule file : List ℕ) (b : Boot) (first : List ℕ) (due : Status) (text : List ℕ) → between ≡ files → ExplainsFile files boot file b first → TellsSchedule between schedule file b first due text → TellsFiles files boot (Some schedule) due text
-both_read_told files between boot schedule file b first due text same system h = both_told files boot schedule file b first due text system (subst (λ (f : Option Files). TellsSchedule f schedule file b first due text) same h)
-
 -- where there is no system nothing is said
 pub no_system : (files : Option Files) (boot : List ℕ) (schedule : Option (List ℕ)) (old new : ℕ) (s : Status) → NoBoot files boot old new s → NoInputs files boot schedule old new s
 no_system files boot None old new s h = h
