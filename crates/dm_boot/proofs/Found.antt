@@ -1,7 +1,7 @@
 -- The processes of the file, found by their names.
 use Rattle.dm_boot.proofs.Imports.{◌≡◌, ℕ, ◌+◌, ◌<◌, ◌≤◌, ◌==◌, ◌&&◌, zero, suc, Bool, true, false, cond, List, [], ◌∷◌, ◌++◌, length, slice_get, Option, Some, None, refl, ap, sym, ◌∙◌, arith, append_assoc, nat_tests, Data, Items, no_items}
 use Rattle.dm_boot.proofs.Imports.{item, get_item, Pid, Link, pid_eq, BootImage, BootProcess, first_number, starting_at, blocks_at, blocks_of_image, process_named, count, or_zero, home_of, image_place, start_of, starts_from, linked}
-use Rattle.dm_boot.proofs.Imports.{linked_all, links_of}
+use Rattle.dm_boot.proofs.Imports.{linked_all, links_of, name_in}
 use Rattle.dm_boot.proofs.Counted.{starting-push}
 
 pub linked-length : (d : Data) (all done : List BootProcess) (ts : Items) → length (linked_all d all (starts_from d done ts) ts) ≡ count ts
@@ -108,17 +108,20 @@ found-start d done (item t ts) (suc k) s old h =
     let rest = starts_from d (done ++ u ∷ []) ts in
     ap (process_named s.pid) (sym (append_assoc done (u ∷ []) rest)) ∙ found-start d (done ++ u ∷ []) ts k s (numbered-push d done t old) h
 
--- and so it is with its links
-linked-step : (b : Bool) (u s : BootProcess) (ls : List Link) (rest more : Option BootProcess) → cond b (Some u) rest ≡ Some s → (rest ≡ Some s → (ms : List Link) × (more ≡ Some (linked s ms))) → (ms : List Link) × (cond b (Some (linked u ls)) more ≡ Some (linked s ms))
-linked-step true u s ls rest more h then =
-    let e : u ≡ s = cc in
-    (ls, ap (λ (p : BootProcess). Some (linked p ls)) e)
-linked-step false u s ls rest more h then = then h
+-- and so it is with its name and its links
+abbrev pub IsLinked : Option BootProcess → BootProcess → Type 0
+IsLinked o s = (name : List ℕ) × ((links : List Link) × (o ≡ Some (linked s name links)))
 
-pub found-linked : (d : Data) (all done : List BootProcess) (ts : Items) (q : Pid) (s : BootProcess) → process_named q (starts_from d done ts) ≡ Some s → (ls : List Link) × (process_named q (linked_all d all (starts_from d done ts) ts) ≡ Some (linked s ls))
+linked-step : (b : Bool) (u s : BootProcess) (name : List ℕ) (ls : List Link) (rest more : Option BootProcess) → cond b (Some u) rest ≡ Some s → (rest ≡ Some s → IsLinked more s) → IsLinked (cond b (Some (linked u name ls)) more) s
+linked-step true u s name ls rest more h then =
+    let e : u ≡ s = cc in
+    (name, (ls, ap (λ (p : BootProcess). Some (linked p name ls)) e))
+linked-step false u s name ls rest more h then = then h
+
+pub found-linked : (d : Data) (all done : List BootProcess) (ts : Items) (q : Pid) (s : BootProcess) → process_named q (starts_from d done ts) ≡ Some s → IsLinked (process_named q (linked_all d all (starts_from d done ts) ts)) s
 unfolding starts_from linked_all
 found-linked d all done no_items q s h = absurd (cc)
 found-linked d all done (item t ts) q s h =
     let u = start_of d done t in
-    linked-step (pid_eq u.pid q) u s (links_of d all t) (process_named q (starts_from d (done ++ u ∷ []) ts)) (process_named q (linked_all d all (starts_from d (done ++ u ∷ []) ts) ts)) h
+    linked-step (pid_eq u.pid q) u s (name_in t) (links_of d all t) (process_named q (starts_from d (done ++ u ∷ []) ts)) (process_named q (linked_all d all (starts_from d (done ++ u ∷ []) ts) ts)) h
     (λ (rest : process_named q (starts_from d (done ++ u ∷ []) ts) ≡ Some s). found-linked d all (done ++ u ∷ []) ts q s rest)

@@ -25,7 +25,7 @@ pub use Rattle.dm_onekernel.specs.declared.boot.Boot.{Boot}
 pub use Rattle.dm_onekernel.specs.declared.boot.BootImage.{BootImage}
 pub use Rattle.dm_onekernel.specs.declared.boot.BootMachine.{BootMachine}
 pub use Rattle.dm_onekernel.specs.declared.boot.BootProcess.{BootProcess}
-pub use Rattle.dm_boot.proofs.Said.{broken_or, integer_in, is_below, linked, links_of, number_or, pid_of_start, system_of}
+pub use Rattle.dm_boot.proofs.Said.{broken_or, integer_in, is_below, linked, links_of, name_in, number_or, pid_of_start, system_of}
 pub use Rattle.dm_boot.specs.Before.{before_images}
 pub use Rattle.dm_boot.specs.Boot.{Answers, document_of, unless}
 unfoldable pub use Rattle.dm_boot.specs.Boot.{boot_of, boot_of_table, unless_at}

@@ -118,10 +118,10 @@ to-valid d l false false images target limit =
     let (t, at) = item-at (process_tables d) k (place-within name (process_tables d) k place) in
     let (s, says) = start-at d [] (process_tables d) k t at in
     let found = found-start d [] (process_tables d) k s numbered-none says.0 in
-    let (ls, found_too) = found-linked d (starts_of d) [] (process_tables d) s.pid s found in
+    let (name_too, (ls, found_too)) = found-linked d (starts_of d) [] (process_tables d) s.pid s found in
     let size = memory-is d name k t s place at says.1 (images k t at) in
     let pid = pid-at (starts_of d) (element_place name (process_tables d)) k s place says.0 in
-    subst (λ (q : Pid). link_is_valid (system_of d) (link_to q program l) ≡ true) (sym pid) (process-valid d program l s (linked s ls) channel says.1.number found_too refl (rw (← size) within))
+    subst (λ (q : Pid). link_is_valid (system_of d) (link_to q program l) ≡ true) (sym pid) (process-valid d program l s (linked s name_too ls) channel says.1.number found_too refl (rw (← size) within))
 
 -- a link of the file
 pub link-valid : (d l : Data) (b : Bool) → b ≡ is_control l → ((k : ℕ) (t : Data) → get_item k (process_tables d) ≡ Some t → is_some (image_place d t) ≡ true) → has_target d l ≡ true → is_limited d l ≡ true → link_is_valid (system_of d) (link_of d (starts_of d) l) ≡ true

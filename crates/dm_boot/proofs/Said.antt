@@ -1,5 +1,5 @@
 -- What the proofs of this crate say of parts of its definitions.
-use Rattle.std.specs.Prelude.{ℕ, Bool, false, ℤ, List, Some, nat_lt, option_and_then, option_map, unwrap_or}
+use Rattle.std.specs.Prelude.{ℕ, Bool, false, ℤ, codes, List, Some, nat_lt, option_and_then, option_map, unwrap_or}
 use Rattle.std.specs.Option.{option_or}
 use Rattle.std.specs.declared.option.Option.{Option}
 use Rattle.toml.specs.Data.{Data, as_integer}
@@ -9,7 +9,7 @@ use Rattle.dm_link.specs.declared.Pid.{Pid}
 use Rattle.dm_onekernel.specs.declared.boot.Boot.{Boot}
 use Rattle.dm_onekernel.specs.declared.boot.BootProcess.{BootProcess}
 use Rattle.dm_boot.specs.Build.{images_of, link_of, link_tables, machines_of, processes_of, system_with}
-use Rattle.dm_boot.specs.Tables.{in_range, map_items}
+use Rattle.dm_boot.specs.Tables.{in_range, map_items, text_at}
 use Rattle.dm_boot.specs.declared.rules.BootRule.{BootRule}
 
 abbrev pub integer_in : ℕ → ℕ → Option ℤ → Option ℕ
@@ -27,8 +27,11 @@ pid_of_start o = unwrap_or (option_map (λ p. p.pid) o) (pid_of 0 0)
 abbrev pub links_of : Data → List BootProcess → Data → List Link
 links_of d starts t = map_items (link_of d starts) (link_tables t)
 
-abbrev pub linked : BootProcess → List Link → BootProcess
-linked p links = record p { links = links }
+abbrev pub name_in : Data → List ℕ
+name_in t = text_at (codes "name") t
+
+abbrev pub linked : BootProcess → List ℕ → List Link → BootProcess
+linked p name links = record p { name = name; links = links }
 
 abbrev pub system_of : Data → Boot
 system_of d = system_with d (machines_of d) (images_of d) (processes_of d)

@@ -4,7 +4,7 @@ use Rattle.dm_boot.proofs.Imports.{arith, and_parts, nat_tests, list_all, is_som
 use Rattle.dm_boot.proofs.Imports.{blocks_at, links_are_valid, image_is_valid, images_are_valid, process_is_valid, processes_are_valid, machine_is_valid, machines_are_valid, TopKeys, Settings, MachineCount, MachineKeys, MachineRoom}
 use Rattle.dm_boot.proofs.Imports.{ImageCount, ImageKeys, ImageName, ImageBlocks, ImageText, ImageBytes, ProcessKeys, ProcessName, ProcessMachine, ProcessImage, ProcessRoom, LinkCount, LinkTarget, LinkLimits, BootError, count, or_zero}
 use Rattle.dm_boot.proofs.Imports.{all_items, first_failing, map_items, machine_tables, image_tables, process_tables, link_tables, numbers_of, quantum_of, format_number, format_of, slots_in, blocks_in, boot_machine, machines_of}
-use Rattle.dm_boot.proofs.Imports.{image_blocks, image_of, images_of, machine_number, home_of, image_place, start_of, starts_from, starts_of, links_of, link_of, linked, linked_all, processes_of, is_control, system_of, system_with, keeps}
+use Rattle.dm_boot.proofs.Imports.{image_blocks, image_of, images_of, machine_number, home_of, image_place, start_of, starts_from, starts_of, links_of, link_of, linked, linked_all, name_in, processes_of, is_control, system_of, system_with, keeps}
 use Rattle.dm_boot.proofs.Imports.{subjects, broken_at, first_broken, rules, has_good_settings, has_good_machine_count, has_good_room, has_good_image_count, image_fits, is_below, has_machine, has_link_count, has_target, is_limited, Answers}
 use Rattle.dm_boot.proofs.Imports.{boot_of, boot_of_table, document_of, option_map, unwrap_or, Document}
 use Rattle.dm_boot.proofs.Parts.{none-head, at_top, unless-ok}
@@ -158,7 +158,7 @@ pub record Good (d : Data) (t : Data) : Type 0 where
   pub target : all_items (has_target d) (link_tables t) ≡ true
   pub limits : all_items (is_limited d) (link_tables t) ≡ true
 
-process-valid : (d : Data) (done : List BootProcess) (t : Data) (others : ℕ) → ((k : ℕ) (u : Data) → get_item k (process_tables d) ≡ Some u → is_some (image_place d u) ≡ true) → Good d t → others ≡ starting_at (home_of t) done → process_is_valid (system_of d) others (linked (start_of d done t) (links_of d (starts_of d) t)) ≡ true
+process-valid : (d : Data) (done : List BootProcess) (t : Data) (others : ℕ) → ((k : ℕ) (u : Data) → get_item k (process_tables d) ≡ Some u → is_some (image_place d u) ≡ true) → Good d t → others ≡ starting_at (home_of t) done → process_is_valid (system_of d) others (linked (start_of d done t) (name_in t) (links_of d (starts_of d) t)) ≡ true
 unfolding system_with start_of has_machine has_link_count
 process-valid d done t others images good e =
     let home : nat_lt (home_of t) (length (machines_of d)) ≡ true = rw (length-map boot_machine (machine_tables d)) (below (count (machine_tables d)) (machine_number t) good.machine) in
@@ -196,7 +196,7 @@ unfolding starts_from linked_all
 processes-from d done earlier i no_items images good same = refl
 processes-from d done earlier i (item t ts) images good same =
     let s = start_of d done t in
-    let p = linked s (links_of d (starts_of d) t) in
+    let p = linked s (name_in t) (links_of d (starts_of d) t) in
     let (here, rest) = good-parts d i t ts good in
     let home : s.pid.home ≡ home_of t = home-is d done t in
     let others : starting_at s.pid.home earlier ≡ starting_at (home_of t) done = same s.pid.home ∙ ap (λ (m : ℕ). starting_at m done) home in

@@ -79,10 +79,11 @@ home_of t = or_zero (machine_number t)
 abbrev pub image_place : Data → Data → Option ℕ
 image_place d t = element_place (text_at (codes "image") t) (image_tables d)
 
--- a process without its links: it has the next number of its machine after these earlier processes
+-- a process without its name and its links: it has the next number of its machine after these earlier processes
 unfoldable pub start_of : Data → List BootProcess → Data → BootProcess
 start_of d earlier t = record {
   pid = pid_of (home_of t) (first_number + starting_at (home_of t) earlier);
+  name = [];
   image = or_zero (image_place d t);
   links = [];
 }
@@ -92,7 +93,7 @@ unfoldable pub starts_from : Data → List BootProcess → Items → List BootPr
 starts_from d earlier no_items = []
 starts_from d earlier (item t ts) = start_of d earlier t ∷ starts_from d (earlier ++ start_of d earlier t ∷ []) ts
 
--- all processes, without their links
+-- all processes, without their names and links
 unfoldable pub starts_of : Data → List BootProcess
 starts_of d = starts_from d [] (process_tables d)
 
@@ -171,11 +172,11 @@ link_of d starts t =
 abbrev pub link_tables : Data → Items
 link_tables t = items_at (codes "links") t
 
--- these processes, each with the links of its table
+-- these processes, each with the name and the links of its table
 unfoldable pub linked_all : Data → List BootProcess → List BootProcess → Items → List BootProcess
 linked_all d starts [] ts = []
 linked_all d starts (p ∷ ps) no_items = []
-linked_all d starts (p ∷ ps) (item t ts) = record p { links = map_items (link_of d starts) (link_tables t) } ∷ linked_all d starts ps ts
+linked_all d starts (p ∷ ps) (item t ts) = record p { name = text_at (codes "name") t; links = map_items (link_of d starts) (link_tables t) } ∷ linked_all d starts ps ts
 
 abbrev pub processes_of : Data → List BootProcess
 processes_of d = linked_all d (starts_of d) (starts_of d) (process_tables d)

@@ -1,4 +1,4 @@
--- A process without its links, where so many of its machine are there already.
+-- A process without its name and its links, where so many of its machine are there already.
 use Rattle.std.specs.Prelude.{ℕ, ◌+◌, []}
 use Rattle.toml.specs.Data.{Data}
 use Rattle.dm_link.specs.Names.{pid_of}
@@ -11,6 +11,7 @@ use Rattle.dm_boot.specs.Build.{home_of, image_place}
 abbrev pub started : Data → Data → ℕ → BootProcess
 started d t others = record {
   pid = pid_of (home_of t) (first_number + others);
+  name = [];
   image = or_zero (image_place d t);
   links = [];
 }

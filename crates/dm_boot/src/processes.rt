@@ -1,16 +1,16 @@
-//! The processes with their links.
-ghost use Rattle.std.specs.Prelude.{◌≡◌, ◌≤◌, IfOk, length};
+//! The processes with their names and links.
+ghost use Rattle.std.specs.Prelude.{◌≡◌, ◌≤◌, IfOk, codes, length};
 ghost use Rattle.toml.specs.View.{view};
-ghost use Rattle.dm_boot.specs.Tables.{count};
+ghost use Rattle.dm_boot.specs.Tables.{count, text_at};
 ghost use Rattle.dm_boot.specs.Build.{linked_all, process_tables};
 ghost use Rattle.dm_boot.specs.Sound.{all_sound};
 
 use crate::MOST_PROCESSES;
 use crate::document::Document;
 use crate::links::links_of;
-use crate::tables::items_at;
+use crate::tables::{items_at, text_at};
 use dm_lists::Items;
-use dm_memory::{NoMemory, push, with_room};
+use dm_memory::{NoMemory, from_slice, push, with_room};
 use dm_onekernel::boot::BootProcess;
 use std::alloc::Global;
 use toml::Value;
@@ -22,7 +22,7 @@ pub struct ReadProcesses {
     pub sound: bool,
 }
 
-/// These processes, each with the links of its table.
+/// These processes, each with the name and the links of its table.
 pub fn processes_of(
     alloc: Global,
     document: &Document<'_>,
@@ -38,12 +38,15 @@ pub fn processes_of(
     let mut processes = with_room(alloc, starts.len())?;
     let mut sound = true;
     for (i, start) in starts.iter().enumerate() {
-        let read = links_of(alloc, document, starts, &tables[i])?;
+        let table = &tables[i];
+        let name = name_of(alloc, table)?;
+        let read = links_of(alloc, document, starts, table)?;
         sound = sound && read.sound;
         push(
             &mut processes,
             BootProcess {
                 pid: start.pid,
+                name,
                 image: start.image,
                 links: read.links,
             },
@@ -53,4 +56,12 @@ pub fn processes_of(
         processes: Items::from_vec(processes),
         sound,
     })
+}
+
+/// The name in the table of a process.
+fn name_of(alloc: Global, table: &Value) -> Result<Items<u8>, NoMemory>
+    ensures { IfOk result (λ name. name ≡ text_at (codes "name") (view table.now)) }
+{
+    let name = from_slice(alloc, text_at(table, "name").as_bytes())?;
+    Ok(Items::from_vec(name))
 }

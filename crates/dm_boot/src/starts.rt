@@ -22,7 +22,7 @@ use dm_onekernel::boot::{BootImage, BootMachine, BootProcess};
 use std::alloc::Global;
 use toml::Value;
 
-/// The processes without their links, unless one doesn't fit its machine with the earlier ones.
+/// The processes without their names and links, unless one doesn't fit its machine with the earlier ones.
 pub fn starts_of(
     alloc: Global,
     document: &Document<'_>,
@@ -57,7 +57,7 @@ pub fn starts_of(
     Ok(starts)
 }
 
-/// A process without its links, after those that take so much.
+/// A process without its name and links, after those that take so much.
 #[tactic(auto)]
 fn start_of(alloc: Global, document: &Document<'_>, taken: &Taken, table: &Value) -> BootProcess
     requires few { (m : ℕ) → slice_index taken.now.slots m ≤ 255 }
@@ -72,6 +72,7 @@ fn start_of(alloc: Global, document: &Document<'_>, taken: &Taken, table: &Value
             home,
             num: FIRST_NUMBER + others,
         },
+        name: Items::new(alloc),
         image: image_place(document, table).unwrap_or(0) as u16,
         links: Items::new(alloc),
     }

@@ -15,7 +15,7 @@ a_round = refl
 
 -- of one's own system it is a calling off: of the first of its processes, at machine 1
 abbrev a_process : Pid → BootProcess
-a_process p = record { pid = p; image = 0; links = [] }
+a_process p = record { pid = p; name = []; image = 0; links = [] }
 
 abbrev processes : List BootProcess
 processes = a_process (pid_of 0 3) ∷ a_process (pid_of 1 3) ∷ []

@@ -60,6 +60,7 @@ link_to_process machines i code base len =
 abbrev pub process_at : ℕ → ℕ → BootProcess
 process_at machines i = record {
   pid = pid_at machines i;
+  name = [];
   image = 0;
   links = link_to_process machines ((i + 1) % (2 * machines)) i 0 0 ∷ link_to_process machines ((i + machines) % (2 * machines)) 0 192 16 ∷ [];
 }

@@ -81,6 +81,7 @@ fn process_at(alloc: Global, machines: u8, i: u8) -> Result<BootProcess, NoMemor
     links.push(link_to(machines, (i + machines) % (2 * machines), 0, 192, 16))?;
     Ok(BootProcess {
         pid: pid_at(machines, i),
+        name: Items::new(alloc),
         image: 0,
         links,
     })

@@ -57,6 +57,8 @@ pub struct BootImage {
 #[derive(Drop)]
 pub struct BootProcess {
     pub pid: Pid,
+    /// Its name in the boot file: empty where there is none. No rule asks for it.
+    pub name: Items<u8>,
     /// Its place among the images, from 0.
     pub image: u16,
     /// Its links, from slot 0 on.

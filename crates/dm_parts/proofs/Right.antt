@@ -70,7 +70,7 @@ child_within b l other false e h is = elim (cases_Bool (leads_to_server l)) [
 
 -- what stands behind the last
 nobody : BootProcess
-nobody = record { pid = switchboard; image = 0; links = [] }
+nobody = record { pid = switchboard; name = []; image = 0; links = [] }
 
 place_within : (ps : List BootProcess) (q : Pid) (i : ℕ) → place_of ps q ≡ Some i → i < length ps
 place_within ps q i e = (position-Some (λ p. pid_eq p.pid q) ps i nobody e).0

@@ -9,7 +9,7 @@ two = record {
   format = One;
   machines = record { slots = 2; blocks = 2 } ∷ record { slots = 2; blocks = 2 } ∷ [];
   images = record { bytes = 20 ∷ 0 ∷ 0 ∷ 1 ∷ []; blocks = 1 } ∷ [];
-  processes = record { pid = pid_of 0 3; image = 0; links = [] } ∷ [];
+  processes = record { pid = pid_of 0 3; name = []; image = 0; links = [] } ∷ [];
 }
 
 abbrev directives : List Step

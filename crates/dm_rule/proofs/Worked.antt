@@ -18,8 +18,8 @@ hi = record {
       ∷ record { bytes = 1 ∷ 1 ∷ 0 ∷ 1 ∷ 1 ∷ 2 ∷ 0 ∷ 64 ∷ 1 ∷ 3 ∷ 0 ∷ 8 ∷ 20 ∷ 0 ∷ 0 ∷ 7 ∷ 1 ∷ 6 ∷ 0 ∷ 64 ∷ 14 ∷ 1 ∷ 6 ∷ 0 ∷ 20 ∷ 0 ∷ 0 ∷ 2 ∷ 20 ∷ 0 ∷ 0 ∷ 1 ∷ []; blocks = 1 }
       ∷ [];
   processes =
-      record { pid = pid_of 0 3; image = 0; links = record { addr = record { pid = pid_of 1 3; at = 1; moves = 0 }; kind = General; to_kernel = false; code = 7; channel = 0; area = record { base = 0; len = 0; read = false; write = false } } ∷ [] }
-      ∷ record { pid = pid_of 1 3; image = 1; links = [] }
+      record { pid = pid_of 0 3; name = []; image = 0; links = record { addr = record { pid = pid_of 1 3; at = 1; moves = 0 }; kind = General; to_kernel = false; code = 7; channel = 0; area = record { base = 0; len = 0; read = false; write = false } } ∷ [] }
+      ∷ record { pid = pid_of 1 3; name = []; image = 1; links = [] }
       ∷ [];
 }
 

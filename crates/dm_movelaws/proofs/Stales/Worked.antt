@@ -14,7 +14,7 @@ two = record {
   format = One;
   machines = record { slots = 2; blocks = 2 } ∷ record { slots = 2; blocks = 2 } ∷ [];
   images = record { bytes = 20 ∷ 0 ∷ 0 ∷ 7 ∷ []; blocks = 1 } ∷ [];
-  processes = record { pid = p; image = 0; links = [] } ∷ record { pid = q; image = 0; links = [] } ∷ [];
+  processes = record { pid = p; name = []; image = 0; links = [] } ∷ record { pid = q; name = []; image = 0; links = [] } ∷ [];
 }
 
 -- how many migrations of a process are called off in the groups of these directives, and how many pieces of it come too late

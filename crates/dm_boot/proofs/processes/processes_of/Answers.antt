@@ -24,9 +24,9 @@ loop-i-preserved c =
     ] in
     let many : length all ≡ length vs = c.requires.many ∙ ap count (sym c.items_at-tables.ensures) ∙ count-view vs in
     let within : i < length vs = omega (arith, many, c.loop-i-test.true) in
-    let new : c.push.new.list.items ≡ c.loop-i.processes.items ++ linked c.index-starts-i.result read.links ∷ [] = c.in_ok-push.ensures.items in
+    let new : c.push.new.list.items ≡ c.loop-i.processes.items ++ linked c.index-starts-i.result c.in_ok-name.name read.links ∷ [] = c.in_ok-push.ensures.items in
     record {
-      processes = rw new (sym (linked-more d c.loop-i.processes.items all all vs i c.index-starts-i.result c.index-tables-i.result read.links c.loop-i-test.true c.index-starts-i.is within c.index-tables-i.is c.in_ok-read.ensures.links) ∙ c.loop-i.invariant.processes);
+      processes = rw new (sym (linked-more d c.loop-i.processes.items all all vs i c.index-starts-i.result c.index-tables-i.result c.in_ok-name.name read.links c.loop-i-test.true c.index-starts-i.is within c.index-tables-i.is c.in_ok-name.ensures c.in_ok-read.ensures.links) ∙ c.loop-i.invariant.processes);
       sound = rw said (sym (sound-more (has_sound_links d) c.loop-i.sound read.sound vs i c.index-tables-i.result within c.index-tables-i.is c.in_ok-read.ensures.sound) ∙ c.loop-i.invariant.sound);
     }
 
