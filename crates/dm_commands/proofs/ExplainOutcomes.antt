@@ -6,7 +6,7 @@ use Rattle.dm_explain.specs.declared.explain.BootTold.TheVariants as told_as
 use Rattle.dm_ending.specs.declared.status.Input.TheVariants as input
 use Rattle.dm_commands.proofs.Meeting.{all_read, unwritten}
 use Rattle.dm_commands.specs.Asked.{perhaps_both}
-use Rattle.dm_commands.specs.Explains.{ExplainMeets, ExplainsFile, TellsFile}
+use Rattle.dm_commands.specs.Explains.{ExplainMeets}
 use Rattle.dm_commands.specs.Meets.{MeetsShelf, MeetsSink}
 use Rattle.dm_commands.specs.Outside.{Around}
 use Rattle.dm_commands.proofs.Outcomes.{Files, boot_part, long_boot, no_files, outcome, refused_boot, said_boot, said_files, want_or_not}
@@ -30,9 +30,6 @@ wrote_unread files boot schedule text before after k k' due s h w i e = elim w [
 says_boot : (files : Option Files) (boot : List ℕ) (b : Boot) (text : List ℕ) → ExplainsSystem files boot b text → SaysBoot files boot b
 says_boot files boot b text h = record { bytes = h.bytes; file = h.file; says = h.told.says }
 
-file_says : (files : Option Files) (boot file : List ℕ) (b : Boot) (text : List ℕ) → ExplainsFile files boot file b text → SaysBoot files boot b
-file_says files boot file b text h = record { bytes = file; file = h.file; says = h.told.says }
-
 -- what is due is how a run ends before it runs
 before_run : (files : Option Files) (boot : List ℕ) (schedule : Option (List ℕ)) (text : List ℕ) (old new : ℕ) (s : Status) → TellsFiles files boot schedule s text → BeforeRun files boot schedule old new s
 before_run files boot None text old new Done h = inl (refl, record { system = h.system; says = says_boot files boot h.system text h.told })
@@ -42,8 +39,8 @@ before_run files boot (Some schedule) text old new Done h = inl (
     system = h.system;
     directives = h.schedule_told.tells.directives;
     says = record {
-      says_boot = file_says files boot h.file h.system h.first h.boot_told;
-      says_directives = record { bytes = h.schedule_told.bytes; file = h.schedule_told.is; says = h.schedule_told.tells.says };
+      says_boot = says_boot files boot h.system h.first h.boot_told;
+      says_directives = record { bytes = h.schedule_told.bytes; file = h.schedule_told.file; says = h.schedule_told.tells.says };
     };
   },
 )
@@ -52,8 +49,8 @@ before_run files boot (Some schedule) text old new (BootRefused number place) h 
 before_run files boot None text old new (ScheduleRefused line why) h = absurd h
 before_run files boot (Some schedule) text old new (ScheduleRefused line why) h = inr (record {
   b = h.system;
-  says = file_says files boot h.file h.system h.first h.boot_told;
-  holds = record { bytes = h.schedule_told.bytes; file = h.schedule_told.is; fault = h.schedule_told.tells.fault; refused = h.schedule_told.tells.refused; why_is = h.schedule_told.tells.why_is };
+  says = says_boot files boot h.system h.first h.boot_told;
+  holds = record { bytes = h.schedule_told.bytes; file = h.schedule_told.file; fault = h.schedule_told.tells.fault; refused = h.schedule_told.tells.refused; why_is = h.schedule_told.tells.why_is };
 })
 before_run files boot schedule text old new Usage h = absurd h
 before_run files boot schedule text old new (ReadFault i) h = absurd h
@@ -139,34 +136,6 @@ system_told files boot b text told is h =
 
 pub system_says : (files : Option Files) (boot : List ℕ) (b : Boot) (text : Vec ℕ Global) (told : BootTold) → told ≡ told_as.System b text → TellsRead files boot told → SaysBoot files boot b
 system_says files boot b text told is h = says_boot files boot b text.items (system_told files boot b text told is h)
-
--- the same of bytes that are named
-pub file_told : (files : Option Files) (boot file : List ℕ) (told : BootTold) → TellsFile files boot file told → TellsRead files boot told
-file_told files boot file told h = record { bytes = file; file = h.file; explains = h.explains }
-
-pub system_of_file : (files : Option Files) (boot file : List ℕ) (b : Boot) (text : Vec ℕ Global) (told : BootTold) → told ≡ told_as.System b text → TellsFile files boot file told → ExplainsFile files boot file b text.items
-system_of_file files boot file b text told is h =
-    let k : TellsFile files boot file (told_as.System b text) = subst (TellsFile files boot file) is h in
-    record { file = k.file; told = k.explains }
-
--- a system is said, and then what is said of a schedule
-both_told : (files : Option Files) (boot schedule file : List ℕ) (b : Boot) (first : List ℕ) (due : Status) (text : List ℕ) → ExplainsFile files boot file b first → TellsSchedule files schedule file b first due text → TellsFiles files boot (Some schedule) due text
-both_told files boot schedule file b first Done text system h = record { file = file; system = b; first = first; boot_told = system; schedule_told = h }
-both_told files boot schedule file b first (ScheduleRefused line why) text system h = record { file = file; system = b; first = first; boot_told = system; schedule_told = h }
-both_told files boot schedule file b first Usage text system h = absurd h.tells
-both_told files boot schedule file b first (ReadFault i) text system h = absurd h.tells
-both_told files boot schedule file b first (NoMemory lack) text system h = absurd h.tells
-both_told files boot schedule file b first WriteFault text system h = absurd h.tells
-both_told files boot schedule file b first (BootRefused number place) text system h = absurd h.tells
-both_told files boot schedule file b first (TooLong i) text system h = absurd h.tells
-both_told files boot schedule file b first (Worn from to) text system h = absurd h.tells
-both_told files boot schedule file b first (TraceRefused line why) text system h = absurd h.tells
-both_told files boot schedule file b first (LabelsRefused line) text system h = absurd h.tells
-both_told files boot schedule file b first NotFound text system h = absurd h.tells
-both_told files boot schedule file b first Undecided text system h = absurd h.tells
-
-pub both_read_told : (files between : Option Files) (boot schedule file : List ℕ) (b : Boot) (first : List ℕ) (due : Status) (text : List ℕ) → between ≡ files → ExplainsFile files boot file b first → TellsSchedule between schedule file b first due text → TellsFiles files boot (Some schedule) due text
-both_read_told files between boot schedule file b first due text same system h = both_told files boot schedule file b first due text system (subst (λ (f : Option Files). TellsSchedule f schedule file b first due text) same h)
 
 -- where there is no system nothing is said
 pub no_system : (files : Option Files) (boot : List ℕ) (schedule : Option (List ℕ)) (old new : ℕ) (s : Status) → NoBoot files boot old new s → NoInputs files boot schedule old new s

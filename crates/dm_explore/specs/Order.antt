@@ -31,7 +31,10 @@ is_put a c k p = (a == p.from) && (c == p.to) && (k == p.k)
 -- it delivers a packet that these lines say was put
 abbrev pub delivers_of : List Put → Step → Bool
 delivers_of ps (step.Deliver a c k) = list_any (is_put a c k) ps
-delivers_of ps e = false
+delivers_of ps (step.Turn m) = false
+delivers_of ps (step.Tick m) = false
+delivers_of ps (step.Migrate p m) = false
+delivers_of ps (step.CallOff p m) = false
 
 -- a directive meets a later one, that lets this machine act, or finds the manager on its way: both act on one machine, or the later one
 -- delivers a packet that the earlier one put, or one of them is a request to move while the manager is on its way
