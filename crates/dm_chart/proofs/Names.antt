@@ -19,14 +19,16 @@ unfoldable pub use Rattle.dm_chart.specs.Drawn.{each_below}
 pub use Rattle.dm_chart.specs.Kept.{is_put_line}
 pub use Rattle.dm_chart.specs.Laws.{letter_of_role, letter_of_shape, letters_of}
 pub use Rattle.dm_chart.specs.Notes.{Note, call_note, follow_note, label_note, no_note, note, note_of}
-pub use Rattle.dm_chart.specs.Picture.{made_in}
-unfoldable pub use Rattle.dm_chart.specs.Picture.{foot}
+pub use Rattle.dm_chart.specs.Picture.{made_in, name_drawn, way_down}
+unfoldable pub use Rattle.dm_chart.specs.Picture.{foot, names_from}
 pub use Rattle.dm_chart.specs.Roles.{role_of}
 pub use Rattle.dm_chart.specs.Shapes.{Column, Group, Shape, fate, fate_here, first_bar, group_shapes, life_shapes, line_shapes, lost_unless, moves_shown, own_shapes, sending_shapes, shapes, wait_if}
 unfoldable pub use Rattle.dm_chart.specs.Shapes.{columns, deliveries, shapes_from}
 pub use Rattle.dm_chart.specs.Spots.{first_spot, next_spot, shown_spot, spot_behind}
 pub use Rattle.dm_chart.specs.Written.{seen}
 pub use Rattle.dm_chart.specs.Xml.{attribute}
+unfoldable pub use Rattle.dm_chart.specs.Xml.{opening_tag}
+pub use Rattle.dm_onekernel.specs.declared.boot.BootProcess.{BootProcess}
 pub use Rattle.dm_chart.specs.declared.frame.Frame.{Frame}
 pub use Rattle.dm_chart.specs.declared.role.Letter.{Letter}
 pub use Rattle.dm_chart.specs.declared.role.Life.{Life}

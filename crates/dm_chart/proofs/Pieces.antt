@@ -1,5 +1,5 @@
 -- A text or a list that grows piece by piece, as a loop goes through what it is made of.
-use Rattle.dm_chart.proofs.Names.{◌≡◌, ℕ, zero, suc, ◌+◌, ◌<◌, ◌≤◌, List, [], ◌∷◌, ◌++◌, length, get_or, drop, map, refl, ap, sym, ◌∙◌, append_assoc, arith, concat, flat_map, append-nil, drop_more, drop_of_length-le, add-one, each_below}
+use Rattle.dm_chart.proofs.Names.{◌≡◌, ℕ, zero, suc, ◌+◌, ◌<◌, ◌≤◌, List, [], ◌∷◌, ◌++◌, length, get_or, drop, map, refl, ap, sym, ◌∙◌, append_assoc, arith, codes, decimal, concat, flat_map, append-nil, drop_more, drop_of_length-le, add-one, each_below, BootProcess, name_drawn, names_from, opening_tag, way_down}
 
 -- an element that was read, and those after it
 pub read_at : {X : Type 0} (xs : List X) (i : ℕ) (x : X) → i < length xs → x ≡ get_or xs i x → drop i xs ≡ x ∷ drop (i + 1) xs
@@ -68,6 +68,37 @@ pub four-pieces : (t u v w a b c d : List ℕ) → u ≡ t ++ a → v ≡ u ++ b
 four-pieces t u v w a b c d e f g =
     ap (λ x. x ++ d) (g ∙ ap (λ x. x ++ c) (f ∙ ap (λ x. x ++ b) e))
     ∙ (ap (λ x. (x ++ c) ++ d) (append_assoc t a b) ∙ (ap (λ x. x ++ d) (append_assoc t (a ++ b) c) ∙ append_assoc t ((a ++ b) ++ c) d))
+
+-- a number and a name, and what stands before them
+pub named : (t u number space name : List ℕ) → u ≡ t ++ concat (number ∷ space ∷ []) → u ++ name ≡ t ++ concat (number ∷ space ∷ name ∷ [])
+named t u number space name e =
+    ap (λ v. v ++ name) e
+    ∙ (append_assoc t (number ++ (space ++ [])) name
+    ∙ ap (λ v. t ++ v) (append_assoc number (space ++ []) name
+    ∙ ap (λ v. number ++ v) (ap (λ v. v ++ name) (append-nil space) ∙ ap (λ v. space ++ v) (sym (append-nil name)))))
+
+-- the names from a process on
+pub names-end : (done : List ℕ) (ps : List BootProcess) (i : ℕ) → length ps ≤ i → done ++ names_from i (drop i ps) ≡ done
+unfolding names_from
+names-end done ps i past = ap (λ qs. done ++ names_from i qs) (drop_of_length-le ps past) ∙ append-nil done
+
+pub names-more : (done : List ℕ) (ps : List BootProcess) (i : ℕ) (p : BootProcess) → i < length ps → p ≡ get_or ps i p → done ++ names_from i (drop i ps) ≡ (done ++ name_drawn i p) ++ names_from (i + 1) (drop (i + 1) ps)
+unfolding names_from
+names-more done ps i p within read =
+    ap (λ qs. done ++ names_from i qs) (read_at ps i p within read) ∙ sym (append_assoc done (name_drawn i p) (names_from (i + 1) (drop (i + 1) ps)))
+
+pub ruleset name_lemmas = (names-end, names-more)
+
+-- what opens a group that goes so far down
+way-closed : (d : List ℕ) → d ++ codes ")'>" ≡ (((d ++ codes ")") ++ codes "'") ++ []) ++ codes ">"
+way-closed d =
+    sym
+    (ap (λ t. t ++ codes ">") (append-nil ((d ++ codes ")") ++ codes "'"))
+    ∙ (append_assoc (d ++ codes ")") (codes "'") (codes ">") ∙ append_assoc d (codes ")") (codes "'>")))
+
+pub way-opened : (room : ℕ) → concat (codes "<g transform='translate(0 " ∷ decimal room ∷ codes ")'>" ∷ []) ≡ opening_tag (codes "g") (way_down room)
+unfolding opening_tag
+way-opened room = ap (λ t. codes "<g transform='translate(0 " ++ t) (way-closed (decimal room))
 
 pub ruleset mapped_lemmas = (mapped-end, mapped-more)
 

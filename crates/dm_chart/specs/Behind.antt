@@ -60,7 +60,31 @@ number_among a b ls = count_by (puts_between a b) ls
 -- a message that kills this process
 abbrev pub kill_with : Pid → MsgId → MessageKind → Pid → List MsgId
 kill_with p i kind.Kill q = if pid_eq q p then i ∷ [] else []
-kill_with p i _ q = []
+kill_with p i kind.User q = []
+kill_with p i kind.Stop q = []
+kill_with p i kind.Resume q = []
+kill_with p i kind.Read q = []
+kill_with p i kind.Write q = []
+kill_with p i kind.Block q = []
+kill_with p i kind.Written q = []
+kill_with p i kind.Gone q = []
+kill_with p i kind.Create q = []
+kill_with p i kind.Created q = []
+kill_with p i kind.NoRoom q = []
+kill_with p i kind.Migrate q = []
+kill_with p i kind.Update q = []
+kill_with p i kind.Ask q = []
+kill_with p i kind.Refuse q = []
+kill_with p i kind.PullState q = []
+kill_with p i kind.State q = []
+kill_with p i kind.PullBlock q = []
+kill_with p i kind.Memory q = []
+kill_with p i kind.AllTaken q = []
+kill_with p i kind.Restart q = []
+kill_with p i kind.Move q = []
+kill_with p i kind.Moved q = []
+kill_with p i kind.CallOff q = []
+kill_with p i kind.Bury q = []
 
 abbrev pub kill_in : Pid → Role → List MsgId
 kill_in p (role.Put x) = kill_with p x.id x.kind x.receiver

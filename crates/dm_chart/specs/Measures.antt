@@ -1,5 +1,5 @@
 -- Where things stand in a picture, in units of the picture.
-use Rattle.std.specs.Prelude.{ℕ, ◌+◌, ◌-◌, ◌*◌, ◌/◌, ◌&&◌, nat_lt, nat_le, Bool, if◌then◌else◌, length, position, slice_index}
+use Rattle.std.specs.Prelude.{ℕ, ◌+◌, ◌-◌, ◌*◌, ◌/◌, ◌%◌, ◌&&◌, nat_lt, nat_le, Bool, if◌then◌else◌, length, position, slice_index}
 use Rattle.std.specs.declared.option.Option.{Option}
 use Rattle.std.specs.declared.option.Option.TheVariants.{None, Some}
 use Rattle.dm_link.specs.declared.Pid.{Pid}
@@ -61,6 +61,22 @@ breadth f = at_least_legend (axis f f.machines)
 
 abbrev pub point : ℕ → ℕ → Point
 point x y = record { x = x; y = y }
+
+-- no boot file has more processes: sixteen machines of at most 64
+abbrev pub starts_within : ℕ → ℕ
+starts_within n = if nat_lt n 1024 then n else 1024
+
+-- where the name of process i of the boot file stands, the first at 0: between the title and the legend, four in a row
+unfoldable pub name_at : ℕ → Point
+name_at i = point (10 + 150 * (starts_within i % 4)) (36 + 14 * (starts_within i / 4))
+
+-- how far all that stands below goes down for the names of so many processes
+unfoldable pub name_room : ℕ → ℕ
+name_room n = 14 * ((starts_within n + 3) / 4)
+
+-- the height of the picture, with the names of so many processes
+unfoldable pub whole_height : Frame → ℕ → ℕ
+whole_height f n = height f.rows + 44 + name_room n
 
 -- a row on the axis of a machine, and on a lane of it
 abbrev pub on_axis : Frame → ℕ → ℕ → Point

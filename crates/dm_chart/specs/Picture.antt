@@ -4,7 +4,9 @@ use Rattle.std.specs.List.{concat, flat_map}
 use Rattle.std.specs.Fmt.{decimal}
 use Rattle.dm_link.specs.declared.Pid.{Pid}
 use Rattle.dm_onekernel.specs.declared.boot.Boot.{Boot}
+use Rattle.dm_onekernel.specs.declared.boot.BootProcess.{BootProcess}
 use Rattle.dm_line.specs.declared.line.Line.{Line}
+use Rattle.dm_text.specs.Words.{pid_word}
 use Rattle.dm_chart.specs.declared.chart.Reach.{Reach}
 use Rattle.dm_chart.specs.declared.chart.Reach.TheVariants as reach
 use Rattle.dm_chart.specs.declared.frame.Frame.{Frame}
@@ -17,12 +19,12 @@ use Rattle.dm_chart.specs.declared.role.Role.{Role}
 use Rattle.dm_chart.specs.declared.role.Role.TheVariants as role
 use Rattle.dm_chart.specs.Roles.{role_of}
 use Rattle.dm_chart.specs.Shapes.{shapes}
-use Rattle.dm_chart.specs.Measures.{breadth, height, point}
+use Rattle.dm_chart.specs.Measures.{breadth, height, name_at, name_room, point, whole_height}
 use Rattle.dm_chart.specs.Spots.{one_row_more}
 use Rattle.dm_chart.specs.Drawn.{all_drawn, written}
 use Rattle.dm_chart.specs.Legend.{style_sheet, marks, meanings}
 use Rattle.dm_chart.specs.Kept.{kept_of}
-use Rattle.dm_chart.specs.Xml.{alone, opening_tag, closing}
+use Rattle.dm_chart.specs.Xml.{alone, element_around, opening_tag, closing}
 
 -- a process that is made
 abbrev pub made_with : Life → List Pid
@@ -53,13 +55,13 @@ processes_in ps ls = ps ++ flat_map (λ l. made_in (role_of l)) ls
 abbrev pub frame_of : ℕ → List Pid → Kept → Frame
 frame_of machines ps k = record { machines = machines; processes = processes_in ps k.lines; numbers = k.numbers; rows = one_row_more k.rows; hidden = k.hidden; layer = layer.Grounds }
 
--- the attributes of the picture
-abbrev pub extent : Frame → List (List ℕ × List ℕ)
-extent f =
-    (codes "xmlns", codes "http://www.w3.org/2000/svg") ∷ (codes "width", decimal (breadth f)) ∷ (codes "height", decimal (height f.rows + 44)) ∷ []
+-- the attributes of the picture, with the names of so many processes
+abbrev pub extent : Frame → ℕ → List (List ℕ × List ℕ)
+extent f starts =
+    (codes "xmlns", codes "http://www.w3.org/2000/svg") ∷ (codes "width", decimal (breadth f)) ∷ (codes "height", decimal (whole_height f starts)) ∷ []
 
-unfoldable pub sheet : Frame → List ℕ
-sheet f = alone (codes "rect") ((codes "width", decimal (breadth f)) ∷ (codes "height", decimal (height f.rows + 44)) ∷ (codes "fill", codes "#fff") ∷ [])
+unfoldable pub sheet : Frame → ℕ → List ℕ
+sheet f starts = alone (codes "rect") ((codes "width", decimal (breadth f)) ∷ (codes "height", decimal (whole_height f starts)) ∷ (codes "fill", codes "#fff") ∷ [])
 
 -- which group is the first to be shown, where that isn't the run's first
 abbrev pub part_words : ℕ → List (List ℕ)
@@ -90,9 +92,23 @@ foot f k r =
     ++ bars_line f
     ++ reach_line f r
 
--- what stands before the shapes
-unfoldable pub picture_head : Frame → Kept → List ℕ
-picture_head f k = concat style_sheet ++ concat marks ++ sheet f ++ title f.machines k ++ concat meanings
+-- process i of the boot file, the first at 0: its number and its name, which has 1 to 16 of a to z, 0 to 9 and _, so that nothing
+-- in it has to be escaped
+unfoldable pub name_drawn : ℕ → BootProcess → List ℕ
+name_drawn i p = written (codes "q") (name_at i) (pid_word p.pid ∷ codes " " ∷ p.name ∷ [])
+
+-- those from process i on
+unfoldable pub names_from : ℕ → List BootProcess → List ℕ
+names_from i [] = []
+names_from i (p ∷ ps) = name_drawn i p ++ names_from (i + 1) ps
+
+-- the names of the boot file, in its order
+abbrev pub names_drawn : List BootProcess → List ℕ
+names_drawn ps = names_from 0 ps
+
+-- what stands above the legend
+unfoldable pub picture_head : Frame → ℕ → List ℕ → Kept → List ℕ
+picture_head f starts names k = concat style_sheet ++ concat marks ++ sheet f starts ++ title f.machines k ++ names
 
 -- all shapes, a layer on another
 unfoldable pub layers : Frame → List Pid → Kept → List ℕ
@@ -101,24 +117,34 @@ layers f ps k =
     ++ all_drawn (record f { layer = layer.Ways }) (shapes f.machines f.rows f.hidden ps k.lines)
     ++ all_drawn (record f { layer = layer.Words }) (shapes f.machines f.rows f.hidden ps k.lines)
 
-abbrev pub picture_in : Frame → List Pid → Kept → Reach → List ℕ
-picture_in f ps k r =
-    opening_tag (codes "svg") (extent f)
-    ++ picture_head f k
-    ++ foot f k r
-    ++ layers f ps k
+-- the legend, what is left out, and the shapes
+unfoldable pub picture_body : Frame → List Pid → Kept → Reach → List ℕ
+picture_body f ps k r = concat meanings ++ foot f k r ++ layers f ps k
+
+-- the attribute of what goes so far down
+abbrev pub way_down : ℕ → List (List ℕ × List ℕ)
+way_down room = (codes "transform", codes "translate(0 " ++ decimal room ++ codes ")") ∷ []
+
+unfoldable pub moved_down : ℕ → List ℕ → List ℕ
+moved_down room text = element_around (codes "g") (way_down room) text
+
+abbrev pub picture_in : Frame → List Pid → List ℕ → Kept → Reach → List ℕ
+picture_in f ps names k r =
+    opening_tag (codes "svg") (extent f (length ps))
+    ++ picture_head f (length ps) names k
+    ++ moved_down (name_room (length ps)) (picture_body f ps k r)
     ++ closing (codes "svg")
 
--- the picture of what is kept, for so many machines and the processes that are there from the start
-unfoldable pub picture_of : ℕ → List Pid → Kept → Reach → List ℕ
-picture_of machines ps k r = picture_in (frame_of machines ps k) ps k r
+-- the picture of what is kept, for so many machines and the processes that are there from the start, whose names are drawn so
+unfoldable pub picture_of : ℕ → List Pid → List ℕ → Kept → Reach → List ℕ
+picture_of machines ps names k r = picture_in (frame_of machines ps k) ps names k r
 
 abbrev pub boot_pids : Boot → List Pid
 boot_pids b = map (λ p. p.pid) b.processes
 
 -- the picture of these groups of a run: of its boot file, and the lines of all its groups; and of one that ended at a worn pair
 abbrev pub chart_of : Part → Boot → List (List Line) → List ℕ
-chart_of part b gs = picture_of (length b.machines) (boot_pids b) (kept_of part gs) reach.Whole
+chart_of part b gs = picture_of (length b.machines) (boot_pids b) (names_drawn b.processes) (kept_of part gs) reach.Whole
 
 abbrev pub worn_chart_of : Part → Boot → List (List Line) → ℕ → ℕ → List ℕ
-worn_chart_of part b gs from to = picture_of (length b.machines) (boot_pids b) (kept_of part gs) (reach.BeforeWorn from to)
+worn_chart_of part b gs from to = picture_of (length b.machines) (boot_pids b) (names_drawn b.processes) (kept_of part gs) (reach.BeforeWorn from to)

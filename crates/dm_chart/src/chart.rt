@@ -2,25 +2,27 @@
 ghost use Rattle.std.specs.Prelude.{◌≡◌, ◌≤◌, ◌-◌, ◌++◌, IfOk, OnOk, codes, length, map, option_to_list};
 ghost use Rattle.std.specs.List.{flat_map};
 ghost use Rattle.dm_chart.specs.Drawn.{all_drawn};
-ghost use Rattle.dm_chart.specs.Picture.{bars_line, boot_pids, extent, foot, foot_line, frame_of, layers, made_in, made_with, picture_head, picture_in, picture_of, processes_in, reach_line, sheet, title};
+ghost use Rattle.dm_chart.specs.Measures.{name_room};
+ghost use Rattle.dm_chart.specs.Picture.{bars_line, extent, foot, foot_line, frame_of, layers, made_in, made_with, moved_down, picture_body, picture_head, picture_in, picture_of, processes_in, reach_line, sheet, title, way_down};
 ghost use Rattle.dm_chart.specs.Roles.{role_of};
 ghost use Rattle.dm_chart.specs.Shapes.{columns, first_bar, shapes};
 ghost use Rattle.dm_chart.specs.Spots.{first_spot};
 ghost use Rattle.dm_chart.specs.Xml.{opening_tag};
 
-use crate::draw::{put_column, put_written};
-use crate::frame::{Frame, Layer, MOST_LANES, Point, breadth, height};
+use crate::draw::put_written;
+use crate::frame::{Frame, Layer, MOST_LANES, Point, breadth, height, name_room, whole_height};
+use crate::headings::put_column;
 use crate::kept::Kept;
 use crate::key::{put_marks, put_meanings, put_style_sheet};
 use crate::lines::{put_lines, put_living};
 use crate::role::{Life, Role, role_of};
 use crate::spot::{first_spot, more};
-use crate::xml::{Attribute, put_alone, put_closing, put_opening};
+use crate::starts::Starts;
+use crate::xml::{Attribute, put_alone, put_bytes, put_closing, put_opening, put_words};
 use dm_line::line::Line;
 use dm_link::Pid;
 use dm_lists::Items;
 use dm_memory::NoMemory;
-use dm_onekernel::boot::Boot;
 use dm_text::word::Word::{Byte, Name, Number, Wide};
 use std::alloc::Global;
 
@@ -33,31 +35,19 @@ pub enum Reach {
     BeforeWorn { from: u8, to: u8 },
 }
 
-/// The names of the processes that are there from the start.
-#[tactic(auto, using(crate::proofs::Pieces::map_lemmas))]
-pub fn starts_of(alloc: Global, boot: &Boot) -> Result<Items<Pid>, NoMemory>
-    ensures { IfOk result (λ ps. ps ≡ boot_pids boot.now) }
-{
-    let mut starts = Items::new(alloc);
-    for process in boot.processes.as_slice() {
-        starts.push(process.pid)?;
-    }
-    Ok(starts)
-}
-
 /// The text of the picture of what is kept of a run, a document in the form SVG: for so many machines, and these
 /// processes from the start.
 #[tactic(auto, unfolding(crate::specs::Picture::picture_of))]
 pub fn picture(
     alloc: Global,
     machines: u8,
-    starts: &[Pid],
+    starts: &Starts,
     kept: &Kept,
     reach: Reach,
 ) -> Result<Vec<u8>, NoMemory>
-    ensures { IfOk result (λ text. text.items ≡ picture_of machines starts.now kept.now reach) }
+    ensures { IfOk result (λ text. text.items ≡ picture_of machines starts.now.pids starts.now.names.items kept.now reach) }
 {
-    let mut frame = frame_of(alloc, machines, starts, kept)?;
+    let mut frame = frame_of(alloc, machines, starts.pids.as_slice(), kept)?;
     let mut text = Vec::new(alloc);
     put_picture(alloc, &mut text, &mut frame, starts, kept, reach)?;
     Ok(text)
@@ -156,17 +146,65 @@ fn put_picture(
     alloc: Global,
     into: &mut Vec<u8>,
     frame: &mut Frame,
+    starts: &Starts,
+    kept: &Kept,
+    reach: Reach,
+) -> Result<(), NoMemory>
+    ensures { OnOk result (into.new.items ≡ into.old.items ++ picture_in frame.old starts.now.pids starts.now.names.items kept.now reach) }
+{
+    let pids = starts.pids.as_slice();
+    put_extent(into, frame, pids.len())?;
+    put_head(into, frame, starts, kept)?;
+    put_moved_down(alloc, into, frame, pids, kept, reach)?;
+    put_closing(into, "svg")
+}
+
+/// Writes what goes down to give room to the names.
+#[tactic(auto, unfolding(crate::specs::Picture::moved_down, crate::specs::Xml::element_around))]
+fn put_moved_down(
+    alloc: Global,
+    into: &mut Vec<u8>,
+    frame: &mut Frame,
     starts: &[Pid],
     kept: &Kept,
     reach: Reach,
 ) -> Result<(), NoMemory>
-    ensures { OnOk result (into.new.items ≡ into.old.items ++ picture_in frame.old starts.now kept.now reach) }
+    ensures { OnOk result (into.new.items ≡ into.old.items ++ moved_down (name_room (length starts.now)) (picture_body frame.old starts.now kept.now reach)) }
 {
-    put_extent(into, frame)?;
-    put_head(into, frame, kept)?;
+    put_way_down(into, name_room(starts.len()))?;
+    put_body(alloc, into, frame, starts, kept, reach)?;
+    put_closing(into, "g")
+}
+
+/// Opens what goes so far down.
+fn put_way_down(into: &mut Vec<u8>, room: u32) -> Result<(), NoMemory>
+    ensures { OnOk result (into.new.items ≡ into.old.items ++ opening_tag (codes "g") (way_down room)) }
+{
+    put_words(
+        into,
+        &[
+            Name("<g transform='translate(0 "),
+            Number(room),
+            Name(")'>"),
+        ],
+    )
+}
+
+/// Writes the legend and what is left out, and draws all shapes.
+#[tactic(auto, unfolding(crate::specs::Picture::picture_body))]
+fn put_body(
+    alloc: Global,
+    into: &mut Vec<u8>,
+    frame: &mut Frame,
+    starts: &[Pid],
+    kept: &Kept,
+    reach: Reach,
+) -> Result<(), NoMemory>
+    ensures { OnOk result (into.new.items ≡ into.old.items ++ picture_body frame.old starts.now kept.now reach) }
+{
+    put_meanings(into)?;
     put_foot(into, frame, kept, reach)?;
-    put_layers(alloc, into, frame, starts, kept)?;
-    put_closing(into, "svg")
+    put_layers(alloc, into, frame, starts, kept)
 }
 
 /// Draws all shapes, a layer on another.
@@ -188,22 +226,22 @@ fn put_layers(
     put_shapes(alloc, into, frame, starts, kept)
 }
 
-/// Writes what stands before the shapes.
+/// Writes what stands above the legend.
 #[tactic(auto, unfolding(crate::specs::Picture::picture_head))]
-fn put_head(into: &mut Vec<u8>, frame: &Frame, kept: &Kept) -> Result<(), NoMemory>
-    ensures { OnOk result (into.new.items ≡ into.old.items ++ picture_head frame.now kept.now) }
+fn put_head(into: &mut Vec<u8>, frame: &Frame, starts: &Starts, kept: &Kept) -> Result<(), NoMemory>
+    ensures { OnOk result (into.new.items ≡ into.old.items ++ picture_head frame.now (length starts.now.pids) starts.now.names.items kept.now) }
 {
     put_style_sheet(into)?;
     put_marks(into)?;
-    put_sheet(into, frame)?;
+    put_sheet(into, frame, starts.pids.len())?;
     put_title(into, frame.machines, kept)?;
-    put_meanings(into)
+    put_bytes(into, starts.names.as_slice())
 }
 
-/// Opens the picture.
+/// Opens the picture, with the names of so many processes.
 #[tactic(auto, unfolding(crate::specs::Xml::opening_tag))]
-fn put_extent(into: &mut Vec<u8>, frame: &Frame) -> Result<(), NoMemory>
-    ensures { OnOk result (into.new.items ≡ into.old.items ++ opening_tag (codes "svg") (extent frame.now)) }
+fn put_extent(into: &mut Vec<u8>, frame: &Frame, starts: usize) -> Result<(), NoMemory>
+    ensures { OnOk result (into.new.items ≡ into.old.items ++ opening_tag (codes "svg") (extent frame.now starts)) }
 {
     put_opening(
         into,
@@ -211,22 +249,22 @@ fn put_extent(into: &mut Vec<u8>, frame: &Frame) -> Result<(), NoMemory>
         &[
             Attribute("xmlns", Name("http://www.w3.org/2000/svg")),
             Attribute("width", Number(breadth(frame))),
-            Attribute("height", Number(height(frame.rows) + 44)),
+            Attribute("height", Number(whole_height(frame, starts))),
         ],
     )
 }
 
 /// Draws a white ground.
 #[tactic(auto, unfolding(crate::specs::Picture::sheet))]
-fn put_sheet(into: &mut Vec<u8>, frame: &Frame) -> Result<(), NoMemory>
-    ensures { OnOk result (into.new.items ≡ into.old.items ++ sheet frame.now) }
+fn put_sheet(into: &mut Vec<u8>, frame: &Frame, starts: usize) -> Result<(), NoMemory>
+    ensures { OnOk result (into.new.items ≡ into.old.items ++ sheet frame.now starts) }
 {
     put_alone(
         into,
         "rect",
         &[
             Attribute("width", Number(breadth(frame))),
-            Attribute("height", Number(height(frame.rows) + 44)),
+            Attribute("height", Number(whole_height(frame, starts))),
             Attribute("fill", Name("#fff")),
         ],
     )

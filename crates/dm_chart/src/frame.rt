@@ -1,7 +1,7 @@
 //! Where things stand in a picture, in units of the picture.
 ghost use Rattle.std.specs.Prelude.{◌≡◌, ◌≤◌, position};
 ghost use Rattle.dm_link.specs.Names.{pid_eq};
-ghost use Rattle.dm_chart.specs.Measures.{above_next, at_least_legend, axis, block_end, blocks_before, breadth, column, few, goes_on, height, lane_at, lane_of, number_shown, on_axis, on_lane, rows_within, towards};
+ghost use Rattle.dm_chart.specs.Measures.{above_next, at_least_legend, axis, block_end, blocks_before, breadth, column, few, goes_on, height, lane_at, lane_of, name_at, name_room, number_shown, on_axis, on_lane, rows_within, starts_within, towards, whole_height};
 
 use crate::scan::same_pid;
 use crate::spot::MOST_ROWS;
@@ -16,6 +16,9 @@ pub const WORDS: u32 = 160;
 
 /// The most processes that have a lane.
 pub const MOST_LANES: usize = 12;
+
+/// No boot file has more processes: 16 machines of at most 64.
+const MOST_STARTS: usize = 1024;
 
 /// The rows of a block: above each block but the first the names come again.
 const BLOCK: u32 = 40;
@@ -197,6 +200,46 @@ fn at_least_legend(n: u32) -> u32
     ensures { result ≡ at_least_legend n }
 {
     if n < LEGEND { LEGEND } else { n }
+}
+
+fn starts_within(count: usize) -> u32
+    ensures within { result ≡ starts_within count }
+    ensures most { result ≤ MOST_STARTS }
+{
+    if count < MOST_STARTS {
+        count as u32
+    } else {
+        1024
+    }
+}
+
+/// Where the name of process i of the boot file stands, the first at 0: four in a row.
+#[tactic(auto, unfolding(crate::specs::Measures::name_at))]
+pub fn name_at(i: usize) -> Point
+    ensures { result ≡ name_at i }
+{
+    let place = starts_within(i);
+    Point {
+        x: 10 + 150 * (place % 4),
+        y: 36 + 14 * (place / 4),
+    }
+}
+
+/// How far all goes down for the names of so many processes.
+#[tactic(auto, unfolding(crate::specs::Measures::name_room))]
+pub fn name_room(count: usize) -> u32
+    ensures room { result ≡ name_room count }
+    ensures most { result ≤ 4000 }
+{
+    14 * ((starts_within(count) + 3) / 4)
+}
+
+/// The height of the picture, with the names of so many processes.
+#[tactic(auto, unfolding(crate::specs::Measures::whole_height))]
+pub fn whole_height(frame: &Frame, count: usize) -> u32
+    ensures { result ≡ whole_height frame.now count }
+{
+    height(frame.rows) + 44 + name_room(count)
 }
 
 /// The lane of a process, if it has one.

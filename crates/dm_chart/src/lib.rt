@@ -1,9 +1,11 @@
 //! A picture of a run: what its lines say, machine by machine, down the page.
 #![tactic(auto)]
 
+mod bars;
 mod chart;
 mod draw;
 mod frame;
+mod headings;
 mod kept;
 mod key;
 pub mod laws;
@@ -12,9 +14,12 @@ mod notes;
 mod role;
 mod scan;
 mod spot;
+mod starts;
 mod style;
+mod ways;
 mod xml;
 
-pub use chart::{Reach, picture, starts_of};
+pub use chart::{Reach, picture};
 pub use kept::{ALL_GROUPS, Kept, Part, keep};
 pub use spot::MOST_ROWS;
+pub use starts::{Starts, starts_of};

@@ -7,10 +7,9 @@ ghost use Rattle.dm_chart.specs.Notes.{note_of};
 ghost use Rattle.dm_chart.specs.Shapes.{bar, comes_at, deliveries, fate_here, group_shapes, letter_shapes, life_shapes, line_shapes, moves_shown, own_shapes, row_or, sending_shapes, shapes_from, wait, wait_if};
 ghost use Rattle.dm_chart.specs.Spots.{first_spot};
 
-use crate::draw::{
-    put_arrow, put_bar, put_group, put_lost, put_marked_packet, put_moves, put_packet, put_waits,
-};
+use crate::bars::{put_bar, put_moves, put_waits};
 use crate::frame::{Frame, Place, lane_of};
+use crate::headings::put_group;
 use crate::notes::put_note;
 use crate::role::{Letter, Life, Role, role_of};
 use crate::scan::{
@@ -18,6 +17,7 @@ use crate::scan::{
 };
 use crate::spot::{Spot, first_spot, next_spot};
 use crate::style::style_of;
+use crate::ways::{put_arrow, put_lost, put_marked_packet, put_packet};
 use dm_line::line::Line;
 use dm_link::Pid;
 use dm_memory::NoMemory;

@@ -5,7 +5,7 @@ ghost use Rattle.dm_text.specs.Written.{word_text};
 ghost use Rattle.dm_chart.specs.Xml.{alone, attribute, attributes, closing, element_around, opening_tag};
 ghost use Rattle.dm_chart.specs.Written.{seen};
 
-use dm_memory::NoMemory;
+use dm_memory::{NoMemory, extend_from_slice};
 use dm_text::word::{Word, put_bare};
 
 /// An attribute of an element: its name and its value.
@@ -17,6 +17,13 @@ pub fn put_text(into: &mut Vec<u8>, text: &'static str) -> Result<(), NoMemory>
     ensures { OnOk result (into.new.items ≡ into.old.items ++ text.now) }
 {
     put_bare(into, &Word::Name(text))
+}
+
+/// Writes bytes as they are.
+pub fn put_bytes(into: &mut Vec<u8>, bytes: &[u8]) -> Result<(), NoMemory>
+    ensures { OnOk result (into.new.items ≡ into.old.items ++ bytes.now) }
+{
+    extend_from_slice(into, bytes)
 }
 
 /// Writes words, one behind another.

@@ -30,7 +30,7 @@ pub use Rattle.dm_text.specs.Fits.{EndFits, HidesNothing, LineFits}
 pub use Rattle.dm_text.specs.Text.{text}
 unfoldable pub use Rattle.dm_text.specs.Text.{text_of_ends, text_of_lines}
 pub use Rattle.dm_chart.specs.Kept.{keep, kept_of, none_kept}
-pub use Rattle.dm_chart.specs.Picture.{boot_pids, chart_of, picture_of}
+pub use Rattle.dm_chart.specs.Picture.{boot_pids, chart_of, names_drawn, picture_of}
 pub use Rattle.dm_chart.specs.declared.kept.Kept.{Kept}
 pub use Rattle.dm_node.specs.Meets.{OrNoMemory}
 pub use Rattle.dm_node.specs.Out.{Acts, Goes}

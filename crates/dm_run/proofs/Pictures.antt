@@ -1,5 +1,5 @@
 -- What is kept of a run that came to its end, or to a worn pair, has its picture.
-use Rattle.dm_run.proofs.Names.{◌≡◌, ℕ, List, [], ◌∷◌, ◌++◌, length, ap, sym, subst, ◌∙◌, fold-append, false≢true, IsErr, IsErrAnd, Result, Ok, Err, Pid, Boot, Step, Directive, Line, Kept, keep, kept_of, none_kept, picture_of, boot_pids, WorldState}
+use Rattle.dm_run.proofs.Names.{◌≡◌, ℕ, List, [], ◌∷◌, ◌++◌, length, ap, sym, subst, ◌∙◌, fold-append, false≢true, IsErr, IsErrAnd, Result, Ok, Err, Pid, Boot, Step, Directive, Line, Kept, keep, kept_of, none_kept, picture_of, boot_pids, names_drawn, WorldState}
 use Rattle.dm_run.proofs.Names.{Way, Does, GoesOn, HasCome, HasEnded, StopsWorn, Keeps, HasWorn, IsCollected, IsBeforeWorn, PictureIsWhole, by_world}
 use Rattle.dm_chart.specs.declared.chart.Reach.{Reach}
 use Rattle.dm_chart.specs.declared.kept.Part.{Part}
@@ -25,25 +25,28 @@ pub collected_err : {A : Type 0} (part : Part) (b : Boot) (ds : List Directive) 
 collected_err part b ds k u (Ok x) e h p = absurd (false≢true h.0)
 collected_err {A} part b ds k u (Err y) e h p = kept_stop A part b ds k u y (subst (λ (x : Stop). IsCollected {A = Unit {0}} part b ds k u (Err x)) (sym h.1) p)
 
-text_is : (part : Part) (b : Boot) (groups : List (List Line)) (machines : ℕ) (starts : List Pid) (k : Kept) (r : Reach) (text : List ℕ) → machines ≡ length b.machines → starts ≡ boot_pids b → k ≡ kept_of part groups → text ≡ picture_of machines starts k r → text ≡ picture_of (length b.machines) (boot_pids b) (kept_of part groups) r
-text_is part b groups machines starts k r text many there kept e =
-    e ∙ (ap (λ (n : ℕ). picture_of n starts k r) many ∙ (ap (λ (ps : List Pid). picture_of (length b.machines) ps k r) there ∙ ap (λ (x : Kept). picture_of (length b.machines) (boot_pids b) x r) kept))
+text_is : (part : Part) (b : Boot) (groups : List (List Line)) (machines : ℕ) (pids : List Pid) (names : List ℕ) (k : Kept) (r : Reach) (text : List ℕ) → machines ≡ length b.machines → pids ≡ boot_pids b → names ≡ names_drawn b.processes → k ≡ kept_of part groups → text ≡ picture_of machines pids names k r → text ≡ picture_of (length b.machines) (boot_pids b) (names_drawn b.processes) (kept_of part groups) r
+text_is part b groups machines pids names k r text many there named kept e =
+    e
+    ∙ (ap (λ (n : ℕ). picture_of n pids names k r) many
+    ∙ (ap (λ (ps : List Pid). picture_of (length b.machines) ps names k r) there
+    ∙ (ap (λ (t : List ℕ). picture_of (length b.machines) (boot_pids b) t k r) named ∙ ap (λ (x : Kept). picture_of (length b.machines) (boot_pids b) (names_drawn b.processes) x r) kept)))
 
-pub whole_drawn : (part : Part) (b : Boot) (ds : List Directive) (machines : ℕ) (starts : List Pid) (k : Kept) (w : WorldState) (text : List ℕ) → HasEnded b ds (Keeps part k) w → machines ≡ length b.machines → starts ≡ boot_pids b → text ≡ picture_of machines starts k reach.Whole → PictureIsWhole part by_world b ds text
-whole_drawn part b ds machines starts k w text h many there e = record {
+pub whole_drawn : (part : Part) (b : Boot) (ds : List Directive) (machines : ℕ) (pids : List Pid) (names : List ℕ) (k : Kept) (w : WorldState) (text : List ℕ) → HasEnded b ds (Keeps part k) w → machines ≡ length b.machines → pids ≡ boot_pids b → names ≡ names_drawn b.processes → text ≡ picture_of machines pids names k reach.Whole → PictureIsWhole part by_world b ds text
+whole_drawn part b ds machines pids names k w text h many there named e = record {
   groups = h.come.groups;
   at = record { way = h.way; steps = h.come.steps; state = w };
   good = h.come.led;
   over = h.done;
   rests = tt;
-  text_is = text_is part b h.come.groups machines starts k reach.Whole text many there h.come.kept e;
+  text_is = text_is part b h.come.groups machines pids names k reach.Whole text many there named h.come.kept e;
 }
 
-pub worn_drawn : (part : Part) (b : Boot) (ds : List Directive) (machines : ℕ) (starts : List Pid) (k : Kept) (text : List ℕ) (from to : ℕ) → HasWorn part b ds k from to → machines ≡ length b.machines → starts ≡ boot_pids b → text ≡ picture_of machines starts k (reach.BeforeWorn from to) → IsBeforeWorn part by_world b ds text from to
-worn_drawn part b ds machines starts k text from to h many there e = record {
+pub worn_drawn : (part : Part) (b : Boot) (ds : List Directive) (machines : ℕ) (pids : List Pid) (names : List ℕ) (k : Kept) (text : List ℕ) (from to : ℕ) → HasWorn part b ds k from to → machines ≡ length b.machines → pids ≡ boot_pids b → names ≡ names_drawn b.processes → text ≡ picture_of machines pids names k (reach.BeforeWorn from to) → IsBeforeWorn part by_world b ds text from to
+worn_drawn part b ds machines pids names k text from to h many there named e = record {
   groups = h.groups;
   wears = h.wears;
-  text_is = text_is part b h.groups machines starts k (reach.BeforeWorn from to) text many there h.kept e;
+  text_is = text_is part b h.groups machines pids names k (reach.BeforeWorn from to) text many there named h.kept e;
 }
 
 -- one more group came

@@ -2,7 +2,7 @@
 ghost use Rattle.std.specs.Prelude.{◌≡◌, ◌≤◌, IfOk, length};
 ghost use Rattle.std.specs.List.{All};
 ghost use Rattle.dm_onekernel.specs.Boot.{IsValid};
-ghost use Rattle.dm_chart.specs.Picture.{boot_pids};
+ghost use Rattle.dm_chart.specs.Picture.{boot_pids, names_drawn};
 ghost use Rattle.dm_run.specs.Runs.{IsFor};
 ghost use Rattle.dm_run.specs.Notion.{by_world};
 ghost use Rattle.dm_run.specs.Pictured.{IsDrawn};
@@ -11,8 +11,7 @@ ghost use Rattle.dm_run.specs.Went.{RunsGo};
 
 use crate::collect::collect;
 use crate::running::begin;
-use dm_chart::{Kept, Part, Reach, picture, starts_of};
-use dm_link::Pid;
+use dm_chart::{Kept, Part, Reach, Starts, picture, starts_of};
 use dm_memory::NoMemory;
 use dm_onekernel::Boot;
 use dm_schedule::{Directive, MOST_SCHEDULE};
@@ -44,14 +43,7 @@ pub fn draw_run(
     let machines = count_of(&boot);
     let starts = starts_of(alloc, &boot)?;
     let mut world = begin(alloc, boot)?;
-    draw_world(
-        alloc,
-        machines,
-        starts.as_slice(),
-        directives,
-        part,
-        &mut world,
-    )
+    draw_world(alloc, machines, &starts, directives, part, &mut world)
 }
 
 /// How many machines there are, at most 16.
@@ -66,7 +58,7 @@ fn count_of(boot: &Boot) -> u8
 fn draw_world(
     alloc: Global,
     machines: u8,
-    starts: &[Pid],
+    starts: &Starts,
     directives: &[Directive],
     part: Part,
     world: &mut World,
@@ -74,7 +66,8 @@ fn draw_world(
     requires law { RunsGo }
     requires fresh { IsAtStart world.old }
     requires machines { machines ≡ length world.old.boot.machines }
-    requires starts { starts.now ≡ boot_pids world.old.boot }
+    requires pids { starts.now.pids ≡ boot_pids world.old.boot }
+    requires names { starts.now.names.items ≡ names_drawn world.old.boot.processes }
     requires each { All (IsFor (length world.old.boot.machines)) directives.now }
     requires few { length directives.now ≤ MOST_SCHEDULE }
     ensures { IfOk result (λ d. IsDrawn part by_world world.old.boot directives.now d) }

@@ -1,6 +1,6 @@
 use Rattle.dm_chart.proofs.Names.{◌++◌, ap, sym, ◌∙◌, heading_again}
 use Rattle.dm_chart.proofs.Pieces.{below-more, below-none}
-use Rattle.dm_chart.proofs.draw.put_headings_again.Goals as goal
+use Rattle.dm_chart.proofs.headings.put_headings_again.Goals as goal
 
 pub loop-block-init : goal.loop-block-init
 loop-block-init c = sym (below-none (heading_again c.args.frame.now c.args.m) c.args.into.now.items)
