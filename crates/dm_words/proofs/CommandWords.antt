@@ -1,8 +1,8 @@
 -- The words, as the command takes them.
-use Rattle.dm_words.proofs.Names.{◌≡◌, List, [], ◌∷◌, codes, true, false, arith, refl, ap, sym, subst, ◌∙◌, None, if◌then◌else◌, option_map, ap₂, ne_eqb, option_and_then, Option, App, HasMatchesOf, Kinds, Text, fault_of, first_value}
-use Rattle.dm_words.proofs.Names.{is_simple, is_simple_and_free, rows_of, subcommand_of, subcommand_rows_of, Row, first_of, is_empty, ArgMatches, Found, clap_on_literals, first_value-rows, explain_request, explaining, both_files, two_files}
-use Rattle.dm_words.proofs.Names.{ℕ, groups_of, look_request, looking}
-use Rattle.dm_words.proofs.Names.{Bool, ◌&&◌, built, is_free_app, Request, demosmp, request_at, request_of, Some}
+use Rattle.dm_words.proofs.Names.{◌≡◌, List, [], ◌∷◌, true, false, arith, refl, ap, sym, subst, ◌∙◌, None, if◌then◌else◌, ap₂, ne_eqb, option_and_then, Option, App, HasMatchesOf, Kinds, Text, fault_of, is_simple, is_simple_and_free}
+use Rattle.dm_words.proofs.Names.{subcommand_rows_of, Row, is_empty, ArgMatches, clap_on_literals, Bool, ◌&&◌, built, is_free_app, Request, demosmp, request_at, request_of, Some}
+use Rattle.std.specs.Prelude.{option_map}
+use Rattle.clap.specs.Words.{subcommand_of}
 
 -- no option of the command has a rule on another
 is_free : is_simple_and_free demosmp ≡ true
@@ -45,35 +45,6 @@ pub not_taken : (a : App) (words : List Text) → a ≡ demosmp → (is_simple_a
 not_taken a words is k =
     let free : is_simple_and_free demosmp ≡ true → fault_of demosmp words ≡ [] → ⊥ = subst (λ x. is_simple_and_free x ≡ true → fault_of x words ≡ [] → ⊥) is k in
     free is_free
-
--- what the getters of the matches read
-pub no_first : (asked : Text → Text → Request) (one other : Text) (f : Found) (first : Option Text) → first ≡ first_value f one → first ≡ None → two_files asked one other (rows_of f) ≡ None
-no_first asked one other f first is none = ap (λ o. both_files asked o (first_of other (rows_of f))) (sym (first_value-rows f one) ∙ sym is ∙ none)
-
-pub both_found : (asked : Text → Text → Request) (one other : Text) (f : Found) (first second : Option Text) → first ≡ first_value f one → second ≡ first_value f other → two_files asked one other (rows_of f) ≡ both_files asked first second
-both_found asked one other f first second is also = sym (ap₂ (both_files asked) (is ∙ first_value-rows f one) (also ∙ first_value-rows f other))
-
-pub no_explain : (f : Found) (first : Option Text) → first ≡ first_value f (codes "boot") → first ≡ None → explain_request (rows_of f) ≡ None
-no_explain f first is none = ap (λ o. explaining o (first_of (codes "schedule") (rows_of f)) (first_of (codes "trace") (rows_of f))) (sym (first_value-rows f (codes "boot")) ∙ sym is ∙ none)
-
-pub explain_found : (f : Found) (first second third : Option Text) → first ≡ first_value f (codes "boot") → second ≡ first_value f (codes "schedule") → third ≡ first_value f (codes "trace") → explain_request (rows_of f) ≡ explaining first second third
-explain_found f first second third is also last =
-    sym (ap₂ (λ (a b : Option Text). explaining a b third) (is ∙ first_value-rows f (codes "boot")) (also ∙ first_value-rows f (codes "schedule"))
-    ∙ ap (λ (o : Option Text). explaining (first_of (codes "boot") (rows_of f)) (first_of (codes "schedule") (rows_of f)) o) (last ∙ first_value-rows f (codes "trace")))
-
-pub no_look : (f : Found) (first : Option Text) → first ≡ first_value f (codes "boot") → first ≡ None → look_request (rows_of f) ≡ None
-no_look f first is none = ap (λ o. looking o (first_of (codes "schedule") (rows_of f)) (groups_of (rows_of f))) (sym (first_value-rows f (codes "boot")) ∙ sym is ∙ none)
-
-pub look_found : (f : Found) (first second : Option Text) (groups : Option ℕ) → first ≡ first_value f (codes "boot") → second ≡ first_value f (codes "schedule") → groups ≡ groups_of (rows_of f) → look_request (rows_of f) ≡ looking first second groups
-look_found f first second groups is also many = sym (ap₂ (λ x y. looking x y groups) (is ∙ first_value-rows f (codes "boot")) (also ∙ first_value-rows f (codes "schedule")) ∙ ap (looking (first_of (codes "boot") (rows_of f)) (first_of (codes "schedule") (rows_of f))) many)
-
-no_second : (first : Option Text) (groups : Option ℕ) → looking first None groups ≡ None
-no_second None groups = refl
-no_second (Some v) groups = refl
-
-pub no_look_schedule : (f : Found) (first second : Option Text) → first ≡ first_value f (codes "boot") → second ≡ first_value f (codes "schedule") → second ≡ None → look_request (rows_of f) ≡ None
-no_look_schedule f first second is also none =
-    look_found f first second (groups_of (rows_of f)) is also refl ∙ (ap (λ y. looking first y (groups_of (rows_of f))) none ∙ no_second first (groups_of (rows_of f)))
 
 -- what is asked for by the name and the matches of the subcommand that was used
 pub used_rows : {B : Type 0} (name : B → Text) (rows : B → List Row) (o : Option B) (n : Text) (rs : List Row) → Some n ≡ option_map name o → Some rs ≡ option_map (λ (p : Text × List Row). p.1) (option_map (λ b. (name b, rows b)) o) → option_and_then request_at (option_map (λ b. (name b, rows b)) o) ≡ request_at (n, rs)

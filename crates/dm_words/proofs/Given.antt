@@ -1,19 +1,21 @@
 -- Words that the command line takes ask for something.
-use Rattle.dm_words.proofs.Names.{◌≡◌, ◌<◌, ◌&&◌, ◌||◌, ◌⊎◌, Bool, true, false, not, ℕ, zero, suc, List, [], ◌∷◌, ◌++◌, length, length-append, refl, ap, ap₂, sym, subst, ◌∙◌, inl, inr, arith, cond, codes, None, is_some, option_map}
-use Rattle.dm_words.proofs.Names.{if◌then◌else◌, drop, ⊤, encode_utf8, find, fold, option_and_then, slice_get, Option, option_map_or, bytes_eq, chars, long_of, short_of, explicit_source, unwrap_or_range, Held, Names, Outcome, Row, Rule}
-use Rattle.dm_words.proofs.Names.{Step, Waiting, Walk, action_of, answers_to, after_flag, after_step, arg_by_id, arg_by_index, arg_by_long, arg_by_short, at_row, attached_value, bundle_met, bundle_step, default_rows, finished, first_of}
-use Rattle.dm_words.proofs.Names.{flag_met, idle, is_empty, is_pending, has_row, long_met, long_or_other, more_values, most_values, next, nothing_held, option, option_met, option_word, plain, plain_word, positional, positional_held, pushed}
-use Rattle.dm_words.proofs.Names.{reacted, reading_by, refused, settled, settled_rows, short_met, short_or_plain, stop_after, subcommand, subcommand_met, subcommand_or_other, takes_several, takes_values, to_positional, trailing, used}
-use Rattle.dm_words.proofs.Names.{used_as, used_by_id, value, values_or_missing, waits, walk, walk_from, walked, walked_from, with_default, with_values, without, word_met, done, check_kinds, or_else, range_kinds, is_given, action_fault}
-use Rattle.dm_words.proofs.Names.{bundle_step_fault, check_fault, defaults_fault, entered_fault, flag_word_fault, flags_fault, level_fault, long_fault, option_fault, other_fault, positional_fault, react_fault, settle_fault, short_fault}
-use Rattle.dm_words.proofs.Names.{step_fault, stray_fault, use_fault, walk_fault, word_fault, Shape, argument_words, built, entered, label_of, labels_of, rows_at, ValueSource, DefaultValue, CommandLine, Reading, drill_by, has_system, lines_asked, own_by, run_by, schedule_of, shows_by}
-use Rattle.dm_words.proofs.Names.{machines_asked, seed_of, trace_of, explaining, both_files, Request, Chart, Check, Count, Explain, Judge, Run, run_command, AreTaken, IsTaken, demosmp, request_at, request_of, Some, Drill, OwnDrill, groups_of, looking, Look, CheckLabels, checking, is_just_one, Exploration, Explore, exploration_of, exploring, looking_for}
+use Rattle.dm_words.proofs.Names.{◌≡◌, ◌<◌, ◌&&◌, ◌||◌, ◌⊎◌, Bool, true, false, not, ℕ, zero, suc, List, [], ◌∷◌, ◌++◌, length, length-append, refl, ap, ap₂, sym, subst, ◌∙◌, inl, inr, arith, cond, codes, None, is_some, if◌then◌else◌, drop}
+use Rattle.dm_words.proofs.Names.{⊤, encode_utf8, find, fold, option_and_then, slice_get, Option, option_map_or, bytes_eq, chars, long_of, short_of, explicit_source, unwrap_or_range, Held, Names, Outcome, Row, Rule, Step, Waiting, Walk}
+use Rattle.dm_words.proofs.Names.{action_of, answers_to, after_flag, after_step, arg_by_id, arg_by_index, arg_by_long, arg_by_short, at_row, attached_value, bundle_met, bundle_step, default_rows, finished, first_of, flag_met, idle}
+use Rattle.dm_words.proofs.Names.{is_empty, is_pending, has_row, long_met, long_or_other, more_values, most_values, next, nothing_held, option, option_met, option_word, plain, plain_word, positional, positional_held, pushed, reacted}
+use Rattle.dm_words.proofs.Names.{reading_by, refused, settled, settled_rows, short_met, short_or_plain, stop_after, subcommand, subcommand_met, subcommand_or_other, takes_several, takes_values, to_positional, trailing, used, used_as}
+use Rattle.dm_words.proofs.Names.{used_by_id, value, values_or_missing, waits, walk_from, walked, walked_from, with_default, with_values, without, word_met, done, check_kinds, or_else, range_kinds, is_given, action_fault, bundle_step_fault}
+use Rattle.dm_words.proofs.Names.{check_fault, defaults_fault, entered_fault, flag_word_fault, flags_fault, level_fault, long_fault, option_fault, other_fault, positional_fault, react_fault, settle_fault, short_fault, step_fault}
+use Rattle.dm_words.proofs.Names.{stray_fault, use_fault, walk_fault, word_fault, Shape, argument_words, built, entered, label_of, labels_of, rows_at, ValueSource, DefaultValue, CommandLine, Reading, drill_by, has_system, lines_asked}
+use Rattle.dm_words.proofs.Names.{own_by, run_by, schedule_of, shows_by, machines_asked, seed_of, trace_of, explaining, both_files, Request, Chart, Check, Count, Explain, Judge, Run, run_command, AreTaken, IsTaken, demosmp, request_at}
+use Rattle.dm_words.proofs.Names.{request_of, Some, Drill, OwnDrill, groups_of, names_of, looking, Look, CheckLabels, checking, is_just_one, Exploration, Explore, exploration_of, exploring, looking_for, charting, group_in, takes_chart}
+use Rattle.dm_words.proofs.Names.{subcommand_of}
+use Rattle.std.specs.Prelude.{option_map}
+use Rattle.clap.specs.Walk.{walk}
 use Rattle.dm_draw.specs.declared.drill.Shows.TheVariants as shows
-use Rattle.dm_words.specs.ChartWords.{charting, group_in, takes_chart}
 use Rattle.clap.specs.Walk.{Text}
 use Rattle.clap.specs.Kinds.{Kinds}
 use Rattle.clap.specs.Faults.{fault_of}
-use Rattle.clap.specs.Simple.{subcommand_of}
 use Rattle.clap.specs.declared.builder.action.ArgAction.TheVariants as action
 use Rattle.clap.specs.declared.error.kind.ErrorKind.TheVariants as kind
 
@@ -334,7 +336,7 @@ each_of_count : Each count_built.rules
 each_of_count = (inl (refl, refl), (inl (refl, refl), (inr (inl refl), tt)))
 
 each_of_look : Each look_built.rules
-each_of_look = (inl (refl, refl), (inl (refl, refl), (inl (refl, refl), (inr (inl refl), tt))))
+each_of_look = (inl (refl, refl), (inl (refl, refl), (inl (refl, refl), (inr (inr (inr (refl, omega arith))), (inr (inl refl), tt)))))
 
 each_of_explore : Each explore_built.rules
 each_of_explore = (
@@ -472,16 +474,16 @@ count_asks words e values =
     let names = names_both count_built (codes "boot") (codes "schedule") words each_of_count (λ rows. refl) e in
     (Count names.first.0 names.second.0, ap₂ (both_files (λ boot schedule. Count boot schedule)) names.first.1 names.second.1)
 
-looks : (boot schedule : Text) (groups : Option ℕ) → is_some groups ≡ true → (r : Request) × (looking (Some boot) (Some schedule) groups ≡ Some r)
-looks boot schedule (Some groups) e = (Look boot schedule groups, refl)
-looks boot schedule None e = cc
+looks : (boot schedule : Text) (groups : Option ℕ) (named : Bool) → is_some groups ≡ true → (r : Request) × (looking (Some boot) (Some schedule) groups named ≡ Some r)
+looks boot schedule (Some groups) named e = (Look boot schedule groups named, refl)
+looks boot schedule None named e = cc
 
 look_asks : Asks look_built
 look_asks words e values =
     let rows : List Row = matched look_built words in
     let names = names_two look_built (codes "boot") (codes "schedule") (codes "at") words each_of_look (λ rows. refl) e in
-    let asked = looks names.first.0 names.second.0 (groups_of rows) values in
-    (asked.0, ap₂ (λ x y. looking x y (groups_of rows)) names.first.1 names.second.1 ∙ asked.1)
+    let asked = looks names.first.0 names.second.0 (groups_of rows) (names_of rows) values in
+    (asked.0, ap₂ (λ x y. looking x y (groups_of rows) (names_of rows)) names.first.1 names.second.1 ∙ asked.1)
 
 -- a command that takes what is looked for, and the numbers and names, explores
 explores : (boot : Text) (line : Option Text) (e : Option Exploration) → option_map_or (looking_for line) e false ≡ true → (r : Request) × (exploring (Some boot) line e ≡ Some r)

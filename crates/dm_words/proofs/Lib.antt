@@ -1,5 +1,6 @@
 pub mod Names
 pub mod CommandWords
+pub mod Shapes
 pub mod Given
 pub mod Ranges
 pub mod Usages

@@ -1,10 +1,7 @@
 -- Words that are read into places one after another, from the first on.
-use Rattle.std.proofs.Common.{◌≡◌, ◌≤◌, ◌<◌, ℕ, zero, suc, ◌+◌, List, [], ◌∷◌, drop, get_or, length, map, replicate, set, refl, ap, sym, ◌∙◌, arith}
-use Rattle.std.proofs.lemmas.List.{drop_all, drop_more}
-use Rattle.std.specs.Option.{option_and_then, option_map}
-use Rattle.std.specs.declared.option.Option.{Option}
+use Rattle.dm_words.proofs.Names.{◌≡◌, ◌≤◌, ◌<◌, ℕ, zero, suc, ◌+◌, List, [], ◌∷◌, drop, get_or, length, map, replicate, set, refl, ap, sym, ◌∙◌, arith, drop_all, drop_more, option_map, Option, all_read, filling}
+use Rattle.std.specs.Option.{option_and_then}
 use Rattle.std.specs.declared.option.Option.TheVariants.{None, Some}
-use Rattle.dm_words.specs.ExploreWords.{all_read, filling}
 
 -- places with these put in from one on
 abbrev pub laid : {X : Type 0} → ℕ → List X → List (Option X) → List (Option X)

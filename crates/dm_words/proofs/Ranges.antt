@@ -1,29 +1,11 @@
 -- The numbers of a drill that words ask for are in their ranges.
-use Rattle.std.proofs.Common.{◌≡◌, ◌≤◌, ℕ, Bool, true, false, List, [], ◌∷◌, refl, arith}
-use Rattle.std.proofs.lemmas.Bool.Decides.{nat_tests}
-use Rattle.std.specs.Prelude.{Option, Some, None, ⊤, nat_le, ◌&&◌, if◌then◌else◌, option_and_then, option_map, codes}
-use Rattle.std.specs.Option.{option_map_or}
-use Rattle.std.specs.Str.{bytes_eq}
-use Rattle.clap.specs.Walk.{Row, first_of, is_empty}
-use Rattle.clap.specs.Simple.{subcommand_of}
+use Rattle.dm_words.proofs.Names.{◌≡◌, ◌≤◌, ℕ, Bool, true, false, List, [], ◌∷◌, refl, arith, nat_tests, Some, None, ⊤, nat_le, ◌&&◌, if◌then◌else◌, option_and_then, codes, option_map_or, bytes_eq, Row, first_of, is_empty, subcommand_of}
+use Rattle.dm_words.proofs.Names.{read_u32, read_u8, chart_request, charting, group_in, takes_chart, check_request, checking, count_request, IsWithin, OwnIsWithin, drawn_by, drill_by, drill_request, if_within, lines_asked, machines_asked}
+use Rattle.dm_words.proofs.Names.{own_by, run_by, schedule_of, seed_of, shows_by, trace_of, Shows, explaining, both_files, ExploreIsWithin, acks_of, depth_of, exploration_of, explore_request, exploring, few_of, listed, looking_for, most_in}
+use Rattle.dm_words.proofs.Names.{most_of, with_names, with_numbers, written_move, written_name, Exploration, WrittenMove, WrittenName, Request, Chart, Check, Count, Drill, Explain, Explore, Judge, OwnDrill, Run, Look, CheckLabels}
+use Rattle.dm_words.proofs.Names.{groups_of, look_request, looking, names_of, run_request, Command, commands, demosmp, request_at, request_in, request_of}
+use Rattle.std.specs.Prelude.{Option}
 use Rattle.clap.specs.Faults.{fault_of}
-use Rattle.dm_text.specs.Reading.{read_u32, read_u8}
-use Rattle.dm_words.specs.ChartWords.{chart_request, charting, group_in, takes_chart}
-use Rattle.dm_words.specs.CheckWords.{check_request, checking}
-use Rattle.dm_words.specs.CountWords.{count_request}
-use Rattle.dm_words.specs.DrillWords.{IsWithin, OwnIsWithin, drawn_by, drill_by, drill_request, if_within, lines_asked, machines_asked, own_by, run_by, schedule_of, seed_of, shows_by, trace_of}
-use Rattle.dm_draw.specs.declared.drill.Shows.{Shows}
-use Rattle.dm_words.specs.ExplainWords.{explaining}
-use Rattle.dm_words.specs.FileWords.{both_files}
-use Rattle.dm_words.specs.ExploreWords.{ExploreIsWithin, acks_of, depth_of, exploration_of, explore_request, exploring, few_of, listed, looking_for, most_in, most_of}
-use Rattle.dm_words.specs.Written.{written_move, written_name}
-use Rattle.dm_words.specs.declared.explore.Exploration.{Exploration}
-use Rattle.dm_words.specs.declared.explore.WrittenMove.{WrittenMove}
-use Rattle.dm_words.specs.declared.explore.WrittenName.{WrittenName}
-use Rattle.dm_words.specs.Request.{Request, Chart, Check, Count, Drill, Explain, Explore, Judge, OwnDrill, Run, Look, CheckLabels}
-use Rattle.dm_words.specs.LookWords.{groups_of, look_request, looking}
-use Rattle.dm_words.specs.RunWords.{run_request}
-use Rattle.dm_words.specs.Words.{Command, commands, demosmp, request_at, request_in, request_of}
 
 -- what is asked for can be done: a drill is of numbers in their ranges
 abbrev pub Fits : Option Request → Type 0
@@ -35,7 +17,7 @@ Fits (Some (Chart boot schedule first last)) = ⊤
 Fits (Some (Explain boot schedule)) = ⊤
 Fits (Some (Judge boot trace)) = ⊤
 Fits (Some (Count boot schedule)) = ⊤
-Fits (Some (Look boot schedule groups)) = ⊤
+Fits (Some (Look boot schedule groups names)) = ⊤
 Fits (Some (Explore boot line exploration)) = ExploreIsWithin exploration
 Fits (Some (Drill drill)) = IsWithin drill
 Fits (Some (OwnDrill boot drill)) = OwnIsWithin drill
@@ -118,14 +100,14 @@ chart_fits rows =
 count_fits : (rows : List Row) → Fits (count_request rows)
 count_fits rows = both_fit (λ boot schedule. Count boot schedule) (first_of (codes "boot") rows) (first_of (codes "schedule") rows) (λ x y. tt)
 
-looking_fits : (boot schedule : Option (List ℕ)) (groups : Option ℕ) → Fits (looking boot schedule groups)
-looking_fits (Some boot) (Some schedule) (Some groups) = tt
-looking_fits (Some boot) (Some schedule) None = tt
-looking_fits (Some boot) None groups = tt
-looking_fits None schedule groups = tt
+looking_fits : (boot schedule : Option (List ℕ)) (groups : Option ℕ) (names : Bool) → Fits (looking boot schedule groups names)
+looking_fits (Some boot) (Some schedule) (Some groups) names = tt
+looking_fits (Some boot) (Some schedule) None names = tt
+looking_fits (Some boot) None groups names = tt
+looking_fits None schedule groups names = tt
 
 look_fits : (rows : List Row) → Fits (look_request rows)
-look_fits rows = looking_fits (first_of (codes "boot") rows) (first_of (codes "schedule") rows) (groups_of rows)
+look_fits rows = looking_fits (first_of (codes "boot") rows) (first_of (codes "schedule") rows) (groups_of rows) (names_of rows)
 
 -- what is explored has its numbers in their ranges
 abbrev ExploresWithin : Option Exploration → Type 0
@@ -148,24 +130,19 @@ least_most : (word : Option (List ℕ)) → HasLeast (option_map_or most_in word
 least_most None = below 1 1000000 refl
 least_most (Some w) = least_read (read_u32 w)
 
--- what the numbers and names make, where all are there
-abbrev explored_by : Option ℕ → Option ℕ → Option (List (Option WrittenName)) → Option (List (Option WrittenMove)) → Option (List (Option WrittenMove)) → Option ℕ → Option ℕ → Bool → Option Exploration
-explored_by depth most stuck moves calls ticks repeats acks =
-    option_and_then (λ depth. option_and_then (λ most. option_and_then (λ stuck. option_and_then (λ moves. option_and_then (λ calls.
-    option_and_then (λ ticks. option_map (λ repeats.
-    record { depth = depth; most = most; stuck = stuck; moves = moves; call_offs = calls; ticks = ticks; repeats = repeats; acks = acks })
-    repeats) ticks) calls) moves) stuck) most) depth
+numbers_within : (depth most ticks repeats : Option ℕ) (acks : Bool) → IsBetween 1 64 depth → HasLeast most → ExploresWithin (with_numbers depth most ticks repeats acks)
+numbers_within (Some d) (Some m) (Some t) (Some r) acks h k = record { least = h.0; most = h.1; some = k }
+numbers_within (Some d) (Some m) (Some t) None acks h k = tt
+numbers_within (Some d) (Some m) None repeats acks h k = tt
+numbers_within (Some d) None ticks repeats acks h k = tt
+numbers_within None most ticks repeats acks h k = tt
 
-explored_within : (depth most : Option ℕ) (stuck : Option (List (Option WrittenName))) (moves calls : Option (List (Option WrittenMove))) (ticks repeats : Option ℕ) (acks : Bool)
-    → IsBetween 1 64 depth → HasLeast most → ExploresWithin (explored_by depth most stuck moves calls ticks repeats acks)
-explored_within None most stuck moves calls ticks repeats acks h k = tt
-explored_within (Some d) None stuck moves calls ticks repeats acks h k = tt
-explored_within (Some d) (Some m) None moves calls ticks repeats acks h k = tt
-explored_within (Some d) (Some m) (Some x) None calls ticks repeats acks h k = tt
-explored_within (Some d) (Some m) (Some x) (Some y) None ticks repeats acks h k = tt
-explored_within (Some d) (Some m) (Some x) (Some y) (Some z) None repeats acks h k = tt
-explored_within (Some d) (Some m) (Some x) (Some y) (Some z) (Some t) None acks h k = tt
-explored_within (Some d) (Some m) (Some x) (Some y) (Some z) (Some t) (Some r) acks h k = record { least = h.0; most = h.1; some = k }
+names_within : (e : Option Exploration) (stuck : Option (List (Option WrittenName))) (moves calls : Option (List (Option WrittenMove))) → ExploresWithin e → ExploresWithin (with_names e stuck moves calls)
+names_within (Some e) (Some x) (Some y) (Some z) h = record { least = h.least; most = h.most; some = h.some }
+names_within (Some e) (Some x) (Some y) None h = tt
+names_within (Some e) (Some x) None calls h = tt
+names_within (Some e) None moves calls h = tt
+names_within None stuck moves calls h = tt
 
 exploring_fits : (boot line : Option (List ℕ)) (e : Option Exploration) → ExploresWithin e → Fits (exploring boot line e)
 exploring_fits (Some boot) line (Some e) h = if_there (looking_for line e)
@@ -179,8 +156,10 @@ exploring_fits None line e h = tt
 explore_fits : (rows : List Row) → Fits (explore_request rows)
 explore_fits rows =
     exploring_fits (first_of (codes "boot") rows) (first_of (codes "line") rows) (exploration_of rows)
-    (explored_within (depth_of rows) (most_of rows) (listed written_name (codes "stuck") rows) (listed written_move (codes "move") rows) (listed written_move (codes "calloff") rows)
-    (few_of (codes "ticks") rows) (few_of (codes "repeats") rows) (acks_of rows) (named (first_of (codes "depth") rows) read_u8 1 64) (least_most (first_of (codes "most") rows)))
+    (names_within (with_numbers (depth_of rows) (most_of rows) (few_of (codes "ticks") rows) (few_of (codes "repeats") rows) (acks_of rows))
+    (listed written_name (codes "stuck") rows) (listed written_move (codes "move") rows) (listed written_move (codes "calloff") rows)
+    (numbers_within (depth_of rows) (most_of rows) (few_of (codes "ticks") rows) (few_of (codes "repeats") rows) (acks_of rows)
+    (named (first_of (codes "depth") rows) read_u8 1 64) (least_most (first_of (codes "most") rows))))
 
 drill_fits_by : (boot machines : Option (List ℕ)) (rows : List Row) → Fits (drill_by boot machines rows)
 drill_fits_by None machines rows =

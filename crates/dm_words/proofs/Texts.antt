@@ -1,9 +1,5 @@
 -- Whether the pieces of a text are words, one after another.
-use Rattle.std.proofs.Common.{◌≡◌, ℕ, zero, suc, ◌+◌, ◌-◌, ◌<◌, Bool, true, false, List, [], ◌∷◌, length, refl, ap, sym, ◌∙◌, ◌&&◌, arith}
-use Rattle.std.proofs.lemmas.Bool.Decides.{nat_tests}
-use Rattle.std.specs.Prelude.{nat_le}
-use Rattle.std.specs.List.{list_all}
-use Rattle.dm_words.specs.Written.{are_words, is_filled}
+use Rattle.dm_words.proofs.Names.{◌≡◌, ℕ, suc, ◌-◌, ◌<◌, Bool, true, false, List, [], ◌∷◌, length, refl, ap, sym, ◌∙◌, ◌&&◌, arith, nat_tests, nat_le, list_all, are_words, is_filled}
 
 least : (k : ℕ) → nat_le 0 k ≡ true
 least k = grind (arith, nat_tests)

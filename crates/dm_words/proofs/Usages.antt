@@ -1,12 +1,7 @@
 -- What was wrong with words, word by word.
-use Rattle.std.proofs.Common.{◌≡◌, ℕ, ◌+◌, Bool, true, false, cond, if◌then◌else◌, List, [], ◌∷◌, map, refl, ap, sym, ◌∙◌, ◌&&◌, ◌||◌}
-use Rattle.std.proofs.lemmas.List.Sums.{sum_by-cons}
-use Rattle.std.specs.List.{count_by, list_any}
-use Rattle.std.specs.declared.option.Option.{Option}
+use Rattle.dm_words.proofs.Names.{◌≡◌, ℕ, ◌+◌, Bool, true, false, cond, if◌then◌else◌, List, [], ◌∷◌, map, refl, ap, sym, ◌∙◌, ◌&&◌, ◌||◌, sum_by-cons, count_by, list_any, Option, Form, OptionName, Wrong, On, at_end, bad_value_of}
+use Rattle.dm_words.proofs.Names.{behind_name, command_told, form_named, is_bad_value, names, on, step, usage_pieces, value_among, value_here, value_of, walk}
 use Rattle.std.specs.declared.option.Option.TheVariants.{None, Some}
-use Rattle.dm_words.specs.declared.form.Form.{Form}
-use Rattle.dm_words.specs.declared.option.OptionName.{OptionName}
-use Rattle.dm_words.specs.Usage.{Wrong, On, at_end, bad_value_of, behind_name, command_told, form_named, is_bad_value, names, on, step, usage_pieces, value_among, value_here, value_of, walk}
 
 pub count-map : {X A : Type 0} (p : A → Bool) (f : X → A) (xs : List X) → count_by (λ x. p (f x)) xs ≡ count_by p (map f xs)
 count-map p f [] = refl

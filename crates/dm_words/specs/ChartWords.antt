@@ -1,5 +1,5 @@
 -- The words of the command `chart`.
-use Rattle.std.specs.Prelude.{ℕ, ◌&&◌, nat_le, Bool, true, false, if◌then◌else◌, is_some, List, [], ◌∷◌, codes, option_and_then, option_map}
+use Rattle.std.specs.Prelude.{ℕ, ◌&&◌, nat_le, Bool, true, false, if◌then◌else◌, is_some, List, [], ◌∷◌, codes, option_and_then}
 use Rattle.std.specs.declared.option.Option.{Option}
 use Rattle.std.specs.declared.option.Option.TheVariants.{None, Some}
 use Rattle.clap.specs.Walk.{Row, first_of}

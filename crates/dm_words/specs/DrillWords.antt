@@ -53,15 +53,18 @@ machines_asked rows = option_and_then machines_in (first_of (codes "machines") r
 abbrev pub lines_asked : List Row → Option ℕ
 lines_asked rows = option_and_then lines_in (first_of (codes "lines") rows)
 
--- whether the flag is there
+-- whether a flag is there
 abbrev pub is_set : List ℕ → Bool
 is_set word = bytes_eq word (codes "true")
 
+abbrev pub flag_of : List ℕ → List Row → Bool
+flag_of name rows = option_map_or is_set (first_of name rows) false
+
 abbrev pub trace_of : List Row → Bool
-trace_of rows = option_map_or is_set (first_of (codes "trace") rows) false
+trace_of rows = flag_of (codes "trace") rows
 
 abbrev pub schedule_of : List Row → Bool
-schedule_of rows = option_map_or is_set (first_of (codes "schedule") rows) false
+schedule_of rows = flag_of (codes "schedule") rows
 
 -- what is drawn then
 abbrev pub drawn_by : Bool → Option ℕ → Option ℕ → Option ℕ → Option Request

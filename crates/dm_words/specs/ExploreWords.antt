@@ -1,5 +1,5 @@
 -- The words of the command `explore`.
-use Rattle.std.specs.Prelude.{ℕ, zero, suc, ◌≤◌, Bool, true, false, not, ◌&&◌, nat_le, is_some, if◌then◌else◌, List, [], ◌∷◌, codes, length, replicate}
+use Rattle.std.specs.Prelude.{ℕ, zero, suc, ◌≤◌, Bool, false, not, ◌&&◌, nat_le, is_some, if◌then◌else◌, List, [], ◌∷◌, codes, length, replicate}
 use Rattle.std.specs.Option.{option_and_then, option_map, option_map_or, unwrap_or}
 use Rattle.std.specs.declared.option.Option.{Option}
 use Rattle.std.specs.declared.option.Option.TheVariants.{None, Some}
@@ -10,7 +10,7 @@ use Rattle.dm_text.specs.Reading.{read_u32, read_u8}
 use Rattle.dm_words.specs.declared.explore.Exploration.{Exploration}
 use Rattle.dm_words.specs.declared.explore.WrittenMove.{WrittenMove}
 use Rattle.dm_words.specs.declared.explore.WrittenName.{WrittenName}
-use Rattle.dm_words.specs.DrillWords.{flag_option, if_within, is_set, number_option}
+use Rattle.dm_words.specs.DrillWords.{flag_of, flag_option, if_within, number_option}
 use Rattle.dm_words.specs.FileWords.{file_option, free_option}
 use Rattle.dm_words.specs.Request.{Request, Explore}
 use Rattle.dm_words.specs.Written.{is_text, written_move, written_name}
@@ -46,7 +46,7 @@ abbrev pub few_of : List ℕ → List Row → Option ℕ
 few_of name rows = option_map_or read_u8 (first_of name rows) (Some 0)
 
 abbrev pub acks_of : List Row → Bool
-acks_of rows = option_map_or is_set (first_of (codes "acks") rows) false
+acks_of rows = flag_of (codes "acks") rows
 
 -- what each of these words says, where each says something
 abbrev pub all_read : {X : Type 0} → (List ℕ → Option X) → List (List ℕ) → Option (List X)
@@ -67,13 +67,35 @@ in_places read words = if nat_le (length words) 16 then option_map (filling 16) 
 abbrev pub listed : {X : Type 0} → (List ℕ → Option X) → List ℕ → List Row → Option (List (Option X))
 listed read name rows = in_places read (unwrap_or (all_of name rows) [])
 
+-- an exploration with these numbers, where they are there, that names nothing yet
+abbrev pub with_numbers : Option ℕ → Option ℕ → Option ℕ → Option ℕ → Bool → Option Exploration
+with_numbers (Some depth) (Some most) (Some ticks) (Some repeats) acks = Some (record {
+  depth = depth;
+  most = most;
+  stuck = replicate 16 None;
+  moves = replicate 16 None;
+  call_offs = replicate 16 None;
+  ticks = ticks;
+  repeats = repeats;
+  acks = acks;
+})
+with_numbers (Some depth) (Some most) (Some ticks) None acks = None
+with_numbers (Some depth) (Some most) None repeats acks = None
+with_numbers (Some depth) None ticks repeats acks = None
+with_numbers None most ticks repeats acks = None
+
+-- one that names these, where all of it is there
+abbrev pub with_names : Option Exploration → Option (List (Option WrittenName)) → Option (List (Option WrittenMove)) → Option (List (Option WrittenMove)) → Option Exploration
+with_names (Some e) (Some stuck) (Some moves) (Some calls) = Some (record e { stuck = stuck; moves = moves; call_offs = calls })
+with_names (Some e) (Some stuck) (Some moves) None = None
+with_names (Some e) (Some stuck) None calls = None
+with_names (Some e) None moves calls = None
+with_names None stuck moves calls = None
+
 abbrev pub exploration_of : List Row → Option Exploration
 exploration_of rows =
-    option_and_then (λ depth. option_and_then (λ most. option_and_then (λ stuck. option_and_then (λ moves. option_and_then (λ calls.
-    option_and_then (λ ticks. option_map (λ repeats.
-    record { depth = depth; most = most; stuck = stuck; moves = moves; call_offs = calls; ticks = ticks; repeats = repeats; acks = acks_of rows })
-    (few_of (codes "repeats") rows)) (few_of (codes "ticks") rows)) (listed written_move (codes "calloff") rows)) (listed written_move (codes "move") rows))
-    (listed written_name (codes "stuck") rows)) (most_of rows)) (depth_of rows)
+    with_names (with_numbers (depth_of rows) (most_of rows) (few_of (codes "ticks") rows) (few_of (codes "repeats") rows) (acks_of rows))
+    (listed written_name (codes "stuck") rows) (listed written_move (codes "move") rows) (listed written_move (codes "calloff") rows)
 
 -- whether a process is named
 abbrev pub is_first_named : {X : Type 0} → List (Option X) → Bool

@@ -1,5 +1,6 @@
 pub mod Refused
 pub mod Request
+pub mod Arguments
 pub mod FileWords
 pub mod RunWords
 pub mod CheckWords

@@ -1,5 +1,5 @@
 -- What the program is asked to do: a command, and what its words name.
-use Rattle.std.specs.Prelude.{ℕ, List}
+use Rattle.std.specs.Prelude.{ℕ, Bool, List}
 use Rattle.std.specs.declared.option.Option.{Option}
 use Rattle.dm_draw.specs.declared.drill.Drill.{Drill as TheDrill}
 use Rattle.dm_draw.specs.declared.drill.OwnDrill.{OwnDrill as TheOwnDrill}
@@ -22,8 +22,9 @@ pub data Request : Type 0 where
   Judge : (boot : List ℕ) → (trace : List ℕ) → Request
   -- to run the schedule of the second name on the system of the boot file of the first, and count what happens
   Count : (boot : List ℕ) → (schedule : List ℕ) → Request
-  -- to say where the run of the schedule of the second name stands behind so many groups, and what is in the messages
-  Look : (boot : List ℕ) → (schedule : List ℕ) → (groups : ℕ) → Request
+  -- to say where the run of the schedule of the second name stands behind so many groups, and what is in the messages, with the names
+  -- of the boot file's processes or without
+  Look : (boot : List ℕ) → (schedule : List ℕ) → (groups : ℕ) → (names : Bool) → Request
   -- to look through the schedules of the system of the boot file of this name, for a line that begins so, or, where there is none, for
   -- the processes that get stuck which are named there
   Explore : (boot : List ℕ) → (line : Option (List ℕ)) → (exploration : Exploration) → Request

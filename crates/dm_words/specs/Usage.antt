@@ -16,7 +16,7 @@ use Rattle.dm_words.specs.declared.walk.Outcome.TheVariants as the
 use Rattle.dm_words.specs.ChartWords.{group_in}
 use Rattle.dm_words.specs.DrillWords.{lines_in, machines_in, seed_in}
 use Rattle.dm_words.specs.ExploreWords.{depth_in, most_in}
-use Rattle.dm_words.specs.Written.{is_text, written_move, written_name}
+use Rattle.dm_words.specs.Written.{is_equals, is_text, written_move, written_name}
 
 -- all commands, and the word of each
 abbrev pub forms : List Form
@@ -42,6 +42,7 @@ option_word option.Schedule = codes "--schedule"
 option_word option.Trace = codes "--trace"
 option_word option.Labels = codes "--labels"
 option_word option.At = codes "--at"
+option_word option.Names = codes "--names"
 option_word option.From = codes "--from"
 option_word option.To = codes "--to"
 option_word option.Seed = codes "--seed"
@@ -66,6 +67,7 @@ value_word option.Schedule = codes " FILE"
 value_word option.Trace = codes " FILE"
 value_word option.Labels = codes " FILE"
 value_word option.At = codes " G"
+value_word option.Names = []
 value_word option.From = codes " G"
 value_word option.To = codes " G"
 value_word option.Seed = codes " N"
@@ -89,6 +91,7 @@ takes_value option.Schedule = true
 takes_value option.Trace = true
 takes_value option.Labels = true
 takes_value option.At = true
+takes_value option.Names = false
 takes_value option.From = true
 takes_value option.To = true
 takes_value option.Seed = true
@@ -113,6 +116,7 @@ range_words option.Schedule = []
 range_words option.Trace = []
 range_words option.Labels = []
 range_words option.At = codes ": 0 to 4294967295"
+range_words option.Names = []
 range_words option.From = codes ": 1 to 4294967295"
 range_words option.To = codes ": 1 to 4294967295"
 range_words option.Seed = codes ": 0 to 4294967295"
@@ -136,6 +140,7 @@ can_be option.Schedule v = true
 can_be option.Trace v = true
 can_be option.Labels v = true
 can_be option.At v = is_some (read_u32 v)
+can_be option.Names v = true
 can_be option.From v = is_some (group_in v)
 can_be option.To v = is_some (group_in v)
 can_be option.Seed v = is_some (seed_in v)
@@ -160,7 +165,7 @@ options_of form.Check = option.Boot ∷ option.Trace ∷ option.Labels ∷ []
 options_of form.Chart = option.Boot ∷ option.Schedule ∷ option.From ∷ option.To ∷ []
 options_of form.Explain = option.Boot ∷ option.Schedule ∷ option.Trace ∷ []
 options_of form.Count = option.Boot ∷ option.Schedule ∷ []
-options_of form.Look = option.Boot ∷ option.Schedule ∷ option.At ∷ []
+options_of form.Look = option.Boot ∷ option.Schedule ∷ option.At ∷ option.Names ∷ []
 options_of form.Explore = option.Boot ∷ option.Depth ∷ option.Line ∷ option.Stuck ∷ option.Move ∷ option.CallOff ∷ option.Ticks ∷ option.Repeats ∷ option.Acks ∷ option.Most ∷ []
 options_of form.Drill = option.Seed ∷ option.Lines ∷ option.Machines ∷ option.Boot ∷ option.WithTrace ∷ option.WithSchedule ∷ []
 
@@ -181,7 +186,7 @@ form_lines form.Check = codes "\nform: demosmp check --boot FILE (--trace FILE |
 form_lines form.Chart = codes "\nform: demosmp chart --boot FILE --schedule FILE [--from G] [--to G]\nhelp: ./demosmp help, docs/FORMATS.md\n"
 form_lines form.Explain = codes "\nform: demosmp explain --boot FILE [--schedule FILE | --trace FILE]\nhelp: ./demosmp help, docs/FORMATS.md\n"
 form_lines form.Count = codes "\nform: demosmp count --boot FILE --schedule FILE\nhelp: ./demosmp help, docs/FORMATS.md\n"
-form_lines form.Look = codes "\nform: demosmp look --boot FILE --schedule FILE --at G\nhelp: ./demosmp help, docs/FORMATS.md\n"
+form_lines form.Look = codes "\nform: demosmp look --boot FILE --schedule FILE --at G [--names]\nhelp: ./demosmp help, docs/FORMATS.md\n"
 form_lines form.Explore = codes "\nform: demosmp explore --boot FILE --depth N (--line TEXT | --stuck P..) [--move P=M].. [--calloff P=M].. [--ticks K] [--repeats K] [--acks] [--most S]\nhelp: ./demosmp help, docs/FORMATS.md\n"
 form_lines form.Drill = codes "\nform: demosmp drill --seed N --lines L (--machines M [--trace] | --boot FILE [--trace | --schedule])\nhelp: ./demosmp help, docs/FORMATS.md\n"
 
@@ -191,9 +196,6 @@ command_lines = codes "\ncommands: run, check, chart, explain, count, look, expl
 -- a word is an option, and no value, where it begins with a dash and goes on
 abbrev pub is_dashed : List ℕ → Bool
 is_dashed w = nat_lt 1 (length w) && (slice_index w 0 == 45)
-
-abbrev pub is_equals : ℕ → Bool
-is_equals c = c == 61
 
 -- what a word has before its first `=`, and behind it
 abbrev pub front_to : List ℕ → Option ℕ → List ℕ
@@ -224,6 +226,7 @@ may_repeat option.Schedule = false
 may_repeat option.Trace = false
 may_repeat option.Labels = false
 may_repeat option.At = false
+may_repeat option.Names = false
 may_repeat option.From = false
 may_repeat option.To = false
 may_repeat option.Seed = false
@@ -306,6 +309,7 @@ is_number option.Schedule = false
 is_number option.Trace = false
 is_number option.Labels = false
 is_number option.At = true
+is_number option.Names = false
 is_number option.From = true
 is_number option.To = true
 is_number option.Seed = true

@@ -1,15 +1,15 @@
 //! The words of the command `explore`.
-ghost use Rattle.std.specs.Prelude.{◌≡◌, ◌≤◌, IfOk, IfSome, None, Some, false, length, map, option_map};
-ghost use Rattle.clap.specs.Words.{all_of, found_of, rows_of, rule_of};
-ghost use Rattle.dm_words.specs.ExploreWords.{ExploreIsWithin, acks_of, all_read, depth_in, depth_of, exploration_of, explore_command as explore_shape, explore_request as explore_asked, exploring, few_of, filling, in_places, listed, many_option, most_in, most_of};
+ghost use Rattle.std.specs.Prelude.{◌≡◌, ◌≤◌, IfOk, IfSome, None, Some, length, map, option_map};
+ghost use Rattle.clap.specs.Words.{found_of, rows_of};
+ghost use Rattle.dm_words.specs.ExploreWords.{ExploreIsWithin, all_read, depth_in, depth_of, exploration_of, explore_command as explore_shape, explore_request as explore_asked, exploring, few_of, filling, in_places, listed, most_in, most_of, with_names, with_numbers};
 ghost use Rattle.dm_words.specs.Words.{HasShape, IsInRange, request_said};
 ghost use Rattle.dm_words.specs.Written.{written_move, written_name};
 
-use crate::words::{Request, file, flag, free, number, value};
+use crate::argument::{file, flag, free, is_set, many, number, value, values, with_option};
+use crate::words::Request;
 use crate::written::{is_text, written_move, written_name};
-use clap::{Arg, ArgAction, ArgMatches, Command};
+use clap::{ArgMatches, Command};
 use dm_memory::NoMemory;
-use dm_memory::of_clap::with_arg;
 use dm_shape::names::{byte, count};
 use std::alloc::Global;
 
@@ -59,24 +59,16 @@ pub struct Exploration {
 pub fn explore_command<'a>(alloc: Global) -> Result<Command<'a>, NoMemory>
     ensures { IfOk result (HasShape explore_shape) }
 {
-    let explore = with_arg(Command::new(alloc, "explore"), file(alloc, "boot"))?;
-    let explore = with_arg(explore, number(alloc, "depth"))?;
-    let explore = with_arg(explore, free(alloc, "line"))?;
-    let explore = with_arg(explore, many(alloc, "stuck"))?;
-    let explore = with_arg(explore, many(alloc, "move"))?;
-    let explore = with_arg(explore, many(alloc, "calloff"))?;
-    let explore = with_arg(explore, free(alloc, "ticks"))?;
-    let explore = with_arg(explore, free(alloc, "repeats"))?;
-    let explore = with_arg(explore, flag(alloc, "acks"))?;
-    with_arg(explore, free(alloc, "most"))
-}
-
-/// The option `--name VALUE`, which may be there more than once.
-fn many<'a>(alloc: Global, name: &'a str) -> Arg<'a>
-    ensures rule { rule_of result ≡ many_option name.now }
-    ensures local { result.global ≡ false }
-{
-    Arg::new(alloc, name).long(name).action(ArgAction::Append)
+    let explore = with_option(Ok(Command::new(alloc, "explore")), file(alloc, "boot"));
+    let explore = with_option(explore, number(alloc, "depth"));
+    let explore = with_option(explore, free(alloc, "line"));
+    let explore = with_option(explore, many(alloc, "stuck"));
+    let explore = with_option(explore, many(alloc, "move"));
+    let explore = with_option(explore, many(alloc, "calloff"));
+    let explore = with_option(explore, free(alloc, "ticks"));
+    let explore = with_option(explore, free(alloc, "repeats"));
+    let explore = with_option(explore, flag(alloc, "acks"));
+    with_option(explore, free(alloc, "most"))
 }
 
 /// What the matches of `explore` ask for, where its numbers are in their ranges, and a line or processes are looked for.
@@ -146,24 +138,70 @@ fn exploration_of(matches: &ArgMatches<'_>) -> Option<Exploration>
     ensures is { result ≡ exploration_of (rows_of (found_of matches.now)) }
     ensures within { IfSome result ExploreIsWithin }
 {
-    let depth = depth_of(matches)?;
-    let most = most_of(matches)?;
-    let stuck = names_of(matches, "stuck")?;
-    let moves = moves_of(matches, "move")?;
-    let call_offs = moves_of(matches, "calloff")?;
-    let ticks = few(matches, "ticks")?;
-    let repeats = few(matches, "repeats")?;
-    let acks = has_acks(matches);
-    Some(Exploration {
-        depth,
-        most,
-        stuck,
-        moves,
-        call_offs,
-        ticks,
-        repeats,
-        acks,
-    })
+    let numbers = with_numbers(
+        depth_of(matches),
+        most_of(matches),
+        few(matches, "ticks"),
+        few(matches, "repeats"),
+        is_set(matches, "acks"),
+    );
+    with_names(
+        numbers,
+        names_of(matches, "stuck"),
+        moves_of(matches, "move"),
+        moves_of(matches, "calloff"),
+    )
+}
+
+/// An exploration with these numbers, where they are there, that names nothing yet.
+fn with_numbers(
+    depth: Option<u8>,
+    most: Option<u32>,
+    ticks: Option<u8>,
+    repeats: Option<u8>,
+    acks: bool,
+) -> Option<Exploration>
+    requires least { IfSome depth (λ n. 1 ≤ n) }
+    requires most { IfSome depth (λ n. n ≤ MOST_DEPTH) }
+    requires some { IfSome most (λ n. 1 ≤ n) }
+    ensures is { result ≡ with_numbers depth most ticks repeats acks }
+    ensures within { IfSome result ExploreIsWithin }
+{
+    match (depth, most, ticks, repeats) {
+        (Some(depth), Some(most), Some(ticks), Some(repeats)) => Some(Exploration {
+            depth,
+            most,
+            stuck: [None; MOST_NAMES],
+            moves: [None; MOST_NAMES],
+            call_offs: [None; MOST_NAMES],
+            ticks,
+            repeats,
+            acks,
+        }),
+        _ => None,
+    }
+}
+
+/// An exploration that names these, where all of it is there.
+fn with_names(
+    numbers: Option<Exploration>,
+    stuck: Option<[Option<WrittenName>; MOST_NAMES]>,
+    moves: Option<[Option<WrittenMove>; MOST_NAMES]>,
+    call_offs: Option<[Option<WrittenMove>; MOST_NAMES]>,
+) -> Option<Exploration>
+    requires within { IfSome numbers ExploreIsWithin }
+    ensures is { result ≡ with_names numbers stuck moves call_offs }
+    ensures within { IfSome result ExploreIsWithin }
+{
+    match (numbers, stuck, moves, call_offs) {
+        (Some(numbers), Some(stuck), Some(moves), Some(call_offs)) => Some(Exploration {
+            stuck,
+            moves,
+            call_offs,
+            ..numbers
+        }),
+        _ => None,
+    }
 }
 
 /// The number of the option `--depth`, if it is in its range.
@@ -220,23 +258,6 @@ fn few(matches: &ArgMatches<'_>, name: &str) -> Option<u8>
         Some(word) => byte(word.as_bytes()),
         None => Some(0),
     }
-}
-
-/// Whether the option `--acks` is there.
-fn has_acks(matches: &ArgMatches<'_>) -> bool
-    ensures { result ≡ acks_of (rows_of (found_of matches.now)) }
-{
-    match value(matches, "acks") {
-        Some(word) => word == "true",
-        None => false,
-    }
-}
-
-/// The values of an option, in all its uses.
-fn values<'m, 'a>(matches: &'m ArgMatches<'a>, name: &str) -> Option<&'m [&'a str]>
-    ensures { option_map (λ s. map (λ v. v.now) s.now) result ≡ all_of name.now (rows_of (found_of matches.now)) }
-{
-    matches.get_strs(name)
 }
 
 /// The processes that an option names, sixteen at most.

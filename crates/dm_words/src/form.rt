@@ -69,7 +69,12 @@ impl Form {
             ],
             Form::Explain => &[OptionName::Boot, OptionName::Schedule, OptionName::Trace],
             Form::Count => &[OptionName::Boot, OptionName::Schedule],
-            Form::Look => &[OptionName::Boot, OptionName::Schedule, OptionName::At],
+            Form::Look => &[
+                OptionName::Boot,
+                OptionName::Schedule,
+                OptionName::At,
+                OptionName::Names,
+            ],
             Form::Explore => &[
                 OptionName::Boot,
                 OptionName::Depth,
@@ -130,7 +135,7 @@ impl Form {
                 b"\nform: demosmp count --boot FILE --schedule FILE\nhelp: ./demosmp help, docs/FORMATS.md\n"
             }
             Form::Look => {
-                b"\nform: demosmp look --boot FILE --schedule FILE --at G\nhelp: ./demosmp help, docs/FORMATS.md\n"
+                b"\nform: demosmp look --boot FILE --schedule FILE --at G [--names]\nhelp: ./demosmp help, docs/FORMATS.md\n"
             }
             Form::Explore => {
                 b"\nform: demosmp explore --boot FILE --depth N (--line TEXT | --stuck P..) [--move P=M].. [--calloff P=M].. [--ticks K] [--repeats K] [--acks] [--most S]\nhelp: ./demosmp help, docs/FORMATS.md\n"

@@ -1,8 +1,11 @@
 //! The words of the command line.
 #![tactic(auto)]
 
+mod argument;
 mod chart;
+mod drill;
 pub mod explore;
+mod files;
 pub mod form;
 mod look;
 pub mod option;
@@ -11,3 +14,5 @@ pub mod usage;
 pub mod walk;
 pub mod words;
 mod written;
+
+pub use drill::MOST_LINES;

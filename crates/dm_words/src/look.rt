@@ -1,13 +1,13 @@
 //! The words of the command `look`.
 ghost use Rattle.std.specs.Prelude.{◌≡◌, option_map, IfOk, IfSome};
 ghost use Rattle.clap.specs.Words.{found_of, rows_of};
-ghost use Rattle.dm_words.specs.LookWords.{groups_of, look_command as look_shape, look_request as look_asked};
+ghost use Rattle.dm_words.specs.LookWords.{groups_of, look_command as look_shape, look_request as look_asked, looking};
 ghost use Rattle.dm_words.specs.Words.{HasShape, IsInRange, request_said};
 
-use crate::words::{Request, file, number, value};
+use crate::argument::{file, flag, is_set, number, value, with_option};
+use crate::words::Request;
 use clap::{ArgMatches, Command};
 use dm_memory::NoMemory;
-use dm_memory::of_clap::with_arg;
 use dm_shape::names::count;
 use std::alloc::Global;
 
@@ -15,24 +15,44 @@ use std::alloc::Global;
 pub fn look_command<'a>(alloc: Global) -> Result<Command<'a>, NoMemory>
     ensures { IfOk result (HasShape look_shape) }
 {
-    let look = with_arg(Command::new(alloc, "look"), file(alloc, "boot"))?;
-    let look = with_arg(look, file(alloc, "schedule"))?;
-    with_arg(look, number(alloc, "at"))
+    let look = with_option(Ok(Command::new(alloc, "look")), file(alloc, "boot"));
+    let look = with_option(look, file(alloc, "schedule"));
+    let look = with_option(look, number(alloc, "at"));
+    with_option(look, flag(alloc, "names"))
 }
 
-/// The two files and the number of groups that the matches of `look` name.
+/// The two files and the number of groups that the matches of `look` name, and whether names are asked for.
 pub fn look_request<'a>(matches: &ArgMatches<'a>) -> Option<Request<'a>>
     ensures asked { option_map request_said result ≡ look_asked (rows_of (found_of matches.now)) }
     ensures within { IfSome result IsInRange }
 {
-    let boot = matches.get_str("boot")?;
-    let schedule = matches.get_str("schedule")?;
-    let groups = groups(matches)?;
-    Some(Request::Look {
-        boot,
-        schedule,
-        groups,
-    })
+    looking(
+        value(matches, "boot"),
+        value(matches, "schedule"),
+        groups(matches),
+        is_set(matches, "names"),
+    )
+}
+
+/// What is asked for, where both files and the number are there.
+fn looking<'a>(
+    boot: Option<&'a str>,
+    schedule: Option<&'a str>,
+    groups: Option<u32>,
+    names: bool,
+) -> Option<Request<'a>>
+    ensures asked { option_map request_said result ≡ looking (option_map (λ s. s.now) boot.entry) (option_map (λ s. s.now) schedule.entry) groups names }
+    ensures within { IfSome result IsInRange }
+{
+    match (boot, schedule, groups) {
+        (Some(boot), Some(schedule), Some(groups)) => Some(Request::Look {
+            boot,
+            schedule,
+            groups,
+            names,
+        }),
+        _ => None,
+    }
 }
 
 /// The number of the option `--at`.

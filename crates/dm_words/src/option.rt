@@ -1,12 +1,12 @@
 //! The options of commands: the word of each, and what its value must be.
 ghost use Rattle.std.specs.Prelude.{◌≡◌, map, string_bytes};
-ghost use Rattle.std.specs.List.{count_by, list_any};
+ghost use Rattle.std.specs.List.{count_by};
 ghost use Rattle.dm_words.specs.Usage.{can_be, is_enough, is_named, is_number, may_repeat, most_times, names, option_word, range_words, takes_value, value_word};
 
 use crate::chart::group_in;
+use crate::drill::{lines_in, machines_in};
 use crate::explore::{MOST_NAMES, depth_in, most_in};
 use crate::walk::front;
-use crate::words::{lines_in, machines_in};
 use crate::written::{is_text, written_move, written_name};
 use dm_shape::names::{byte, count};
 
@@ -18,6 +18,7 @@ pub enum OptionName {
     Trace,
     Labels,
     At,
+    Names,
     From,
     To,
     Seed,
@@ -49,6 +50,7 @@ impl OptionName {
             OptionName::Trace => b"--trace",
             OptionName::Labels => b"--labels",
             OptionName::At => b"--at",
+            OptionName::Names => b"--names",
             OptionName::From => b"--from",
             OptionName::To => b"--to",
             OptionName::Seed => b"--seed",
@@ -78,6 +80,7 @@ impl OptionName {
             OptionName::Trace => b" FILE",
             OptionName::Labels => b" FILE",
             OptionName::At => b" G",
+            OptionName::Names => b"",
             OptionName::From => b" G",
             OptionName::To => b" G",
             OptionName::Seed => b" N",
@@ -107,6 +110,7 @@ impl OptionName {
             OptionName::Trace => true,
             OptionName::Labels => true,
             OptionName::At => true,
+            OptionName::Names => false,
             OptionName::From => true,
             OptionName::To => true,
             OptionName::Seed => true,
@@ -136,6 +140,7 @@ impl OptionName {
             OptionName::Trace => b"",
             OptionName::Labels => b"",
             OptionName::At => b": 0 to 4294967295",
+            OptionName::Names => b"",
             OptionName::From => b": 1 to 4294967295",
             OptionName::To => b": 1 to 4294967295",
             OptionName::Seed => b": 0 to 4294967295",
@@ -166,6 +171,7 @@ impl OptionName {
             OptionName::Trace => true,
             OptionName::Labels => true,
             OptionName::At => count(value).is_some(),
+            OptionName::Names => true,
             OptionName::From => group_in(value).is_some(),
             OptionName::To => group_in(value).is_some(),
             OptionName::Seed => count(value).is_some(),
@@ -195,6 +201,7 @@ impl OptionName {
             OptionName::Trace => false,
             OptionName::Labels => false,
             OptionName::At => false,
+            OptionName::Names => false,
             OptionName::From => false,
             OptionName::To => false,
             OptionName::Seed => false,
@@ -231,6 +238,7 @@ impl OptionName {
             OptionName::Trace => false,
             OptionName::Labels => false,
             OptionName::At => true,
+            OptionName::Names => false,
             OptionName::From => true,
             OptionName::To => true,
             OptionName::Seed => true,
@@ -259,34 +267,20 @@ impl OptionName {
     }
 
     /// Whether one of these words names this option.
-    fn is_among(self, words: &[String]) -> bool
-        ensures { result ≡ list_any (λ w. names self (string_bytes w)) words.now }
+    pub(crate) fn is_named(self, words: &[String]) -> bool
+        ensures { result ≡ is_named self (map string_bytes words.now) }
     {
         words.iter().any(|word| self.is_in(word.as_bytes()))
     }
 
-    /// The same.
-    pub(crate) fn is_named(self, words: &[String]) -> bool
-        ensures { result ≡ is_named self (map string_bytes words.now) }
-    {
-        self.is_among(words)
-    }
-
     /// How many of these words name this option.
-    fn times_among(self, words: &[String]) -> usize
-        ensures { result ≡ count_by (λ w. names self (string_bytes w)) words.now }
+    fn times_named(self, words: &[String]) -> usize
+        ensures { result ≡ count_by (names self) (map string_bytes words.now) }
     {
         words
             .iter()
             .filter(|word| self.is_in(word.as_bytes()))
             .count()
-    }
-
-    /// The same.
-    fn times_named(self, words: &[String]) -> usize
-        ensures { result ≡ count_by (names self) (map string_bytes words.now) }
-    {
-        self.times_among(words)
     }
 
     /// Whether so many of these words name it as may.

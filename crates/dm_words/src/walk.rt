@@ -1,7 +1,8 @@
 //! The words behind a command's, one after another: the options that they name, the values of these, and what is wrong word by word.
 ghost use Rattle.std.specs.Prelude.{◌≡◌, ◌∷◌, ◌<◌, [], IfNone, IfSome, length, map, option_map, string_bytes};
 ghost use Rattle.std.specs.List.{position};
-ghost use Rattle.dm_words.specs.Usage.{attached, bad_value_of, front, is_bad_value, is_dashed, is_equals, met, met_by, option_named, pieces_told, step, step_of, too_often, value_here, value_of, walk};
+ghost use Rattle.dm_words.specs.Written.{is_equals};
+ghost use Rattle.dm_words.specs.Usage.{attached, bad_value_of, front, is_bad_value, is_dashed, met, met_by, option_named, pieces_told, step, step_of, too_often, value_here, value_of, walk};
 
 use crate::form::Form;
 use crate::option::OptionName;

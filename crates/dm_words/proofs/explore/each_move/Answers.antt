@@ -1,5 +1,4 @@
-use Rattle.std.proofs.Common.{rules, ◌≡◌, ap, sym, ◌∙◌, arith, None, Some}
-use Rattle.dm_words.specs.Written.{written_move}
+use Rattle.dm_words.proofs.Names.{rules, ◌≡◌, ap, sym, ◌∙◌, arith, None, written_move}
 use Rattle.dm_words.proofs.Places.{all_are_read, none_read, one_read, one_says_none}
 use Rattle.dm_words.proofs.explore.each_move.Goals as goal
 

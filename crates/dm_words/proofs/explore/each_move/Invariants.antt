@@ -1,5 +1,5 @@
 -- What was found of the words so far, with what the others say.
-use Rattle.dm_words.specs.Written.{written_move}
+use Rattle.dm_words.proofs.Names.{written_move}
 use Rattle.dm_words.proofs.Places.{ReadUpTo}
 use Rattle.dm_words.proofs.explore.each_move.Given as goal
 

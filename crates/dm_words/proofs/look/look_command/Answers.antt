@@ -1,8 +1,11 @@
-use Rattle.dm_words.proofs.Names.{rules, ◌≡◌, ap, ap₂, ◌∙◌, codes, App, IfOk-weaker, app_of, new_app, with_rule, with_subcommand, file_option}
+use Rattle.dm_words.proofs.Names.{codes, IfOk-weaker, new_app, file_option, flag_option, number_option}
+use Rattle.dm_words.proofs.Shapes.{shaped}
 use Rattle.dm_words.proofs.look.look_command.Goals as goal
 
 pub returns : goal.returns
 returns c =
-    let one : app_of c.in_ok-look.look ≡ with_rule (new_app (codes "look")) (file_option (codes "boot")) = c.in_ok-look.ensures.shape (search rules) ∙ ap₂ with_rule c.new.ensures.app c.file.ensures.rule in
-    let two : app_of c.in_ok-look-2.look ≡ with_rule (with_rule (new_app (codes "look")) (file_option (codes "boot"))) (file_option (codes "schedule")) = c.in_ok-look-2.ensures.shape (search rules) ∙ ap₂ with_rule one c.file-2.ensures.rule in
-    IfOk-weaker c.with_arg-3.result _ _ (λ r added old new adds. adds.shape (search rules) ∙ ap (λ (a : App). with_subcommand (app_of old) a.top) (added.shape (search rules) ∙ ap₂ with_rule two c.number.ensures.rule)) c.with_arg-3.ensures
+    let one = c.with_option-look.ensures (new_app (codes "look")) (file_option (codes "boot")) c.file.ensures (record { is = c.new.ensures.app; local = c.new.ensures.local }) in
+    let two = c.with_option-look-2.ensures _ (file_option (codes "schedule")) c.file-2.ensures one in
+    let three = c.with_option-look-3.ensures _ (number_option (codes "at")) c.number.ensures two in
+    let four = c.with_option.ensures _ (flag_option (codes "names")) c.flag.ensures three in
+    IfOk-weaker c.with_option.result _ _ (λ r has. shaped _ r has) four

@@ -1,7 +1,5 @@
 -- What is left has the same.
-use Rattle.std.proofs.Common.{◌≡◌, length, map}
-use Rattle.std.specs.Prelude.{string_bytes}
-use Rattle.dm_words.specs.Usage.{bad_value_of}
+use Rattle.dm_words.proofs.Names.{◌≡◌, length, map, string_bytes, bad_value_of}
 use Rattle.dm_words.proofs.walk.bad_value_of.Given as goal
 
 abbrev pub invariant-loop-word : goal.invariant-loop-word

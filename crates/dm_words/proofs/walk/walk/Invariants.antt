@@ -1,7 +1,5 @@
 -- What is wrong is so in what is left.
-use Rattle.std.proofs.Common.{◌≡◌, length, map, None}
-use Rattle.std.specs.Prelude.{string_bytes}
-use Rattle.dm_words.specs.Usage.{walk}
+use Rattle.dm_words.proofs.Names.{◌≡◌, length, map, None, string_bytes, walk}
 use Rattle.dm_words.proofs.walk.walk.Given as goal
 
 abbrev pub invariant-loop-word : goal.invariant-loop-word

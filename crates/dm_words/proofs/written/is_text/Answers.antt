@@ -1,6 +1,4 @@
-use Rattle.std.proofs.Common.{rules, sym, ◌∙◌}
-use Rattle.std.specs.Option.{option_map}
-use Rattle.dm_reading.specs.Cuts.{behind}
+use Rattle.dm_words.proofs.Names.{rules, sym, ◌∙◌, option_map, behind}
 use Rattle.dm_words.proofs.Texts.{text-empty}
 use Rattle.dm_words.proofs.written.is_text.Goals as goal
 

@@ -1,8 +1,5 @@
 -- What is left of the text are words as far as all of it.
-use Rattle.std.proofs.Common.{◌≡◌}
-use Rattle.std.specs.Option.{option_map}
-use Rattle.dm_reading.specs.Cuts.{behind}
-use Rattle.dm_words.specs.Written.{are_words, is_text}
+use Rattle.dm_words.proofs.Names.{◌≡◌, option_map, behind, are_words, is_text}
 use Rattle.dm_words.proofs.written.is_text.Given as goal
 
 abbrev pub invariant-loop-rest : goal.invariant-loop-rest

@@ -1,6 +1,0 @@
-use Rattle.dm_words.proofs.Names.{◌∙◌, found_of}
-use Rattle.clap.proofs.WalkLemmas.{raw_values-rows}
-use Rattle.dm_words.proofs.explore.values.Goals as goal
-
-pub returns : goal.returns
-returns c = c.get_strs.ensures ∙ raw_values-rows (found_of c.args.matches.now) c.args.name.now
