@@ -31,8 +31,9 @@ class Image:
 
 @dataclass
 class Born:
-    """A process of the boot file: its pid, its machine, its image and its first links."""
+    """A process of the boot file: its name, its pid, its machine, its image and its first links."""
 
+    name: str
     pid: Pid
     machine: int
     image: Image
@@ -166,7 +167,7 @@ def read_boot(data):
     born, counts = {}, [3] * len(machines)
     for process in processes:
         machine = process["machine"]
-        born[process["name"]] = Born(Pid(machine, counts[machine]), machine, by_name[process["image"]], [])
+        born[process["name"]] = Born(process["name"], Pid(machine, counts[machine]), machine, by_name[process["image"]], [])
         counts[machine] += 1
     first(19, (not all(is_known(link, born) for link in process.get("links", [])) for process in processes))
     first(20, (not all(is_in_range(link, born) for link in process.get("links", [])) for process in processes))

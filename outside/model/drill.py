@@ -31,7 +31,7 @@ def drawn_boot(machines):
     for i, pid in enumerate(pids):
         first = Link(addresses[(i + 1) % count], code=i)
         second = Link(addresses[(i + machines) % count], base=192, length=16, read=True)
-        processes.append(Born(pid, pid.home, image, [first, second]))
+        processes.append(Born("", pid, pid.home, image, [first, second]))
     return Boot(1_048_576, 16, 32, 64, [(3, 3)] * machines, [image], processes)
 
 

@@ -62,6 +62,11 @@ def content_lines(world):
     return lines
 
 
+def name_lines(boot, names):
+    """What the processes of the boot file are called there, in its order."""
+    return [f"name {born.pid} {name}" for born, name in zip(boot.processes, names)]
+
+
 class Enough(Exception):
     """There are as many groups as were asked for."""
 

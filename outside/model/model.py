@@ -27,7 +27,7 @@ from drill import directives_of, drawn_boot, drill
 from ends import end_lines
 from explaining import explain, first_told, names_of
 from exploring import Bounds, NotFound, OutOfRange, Undecided, explore, is_text, looks_like_move, looks_like_pid, move_in, pid_in
-from looking import Enough, look
+from looking import Enough, look, name_lines
 from onekernel import Refused as LabelsRefused
 from onekernel import check_labels
 from world import World, Worn
@@ -184,7 +184,7 @@ def do_count(words, write):
 
 
 def do_look(words, write):
-    options = options_of(words, ["--boot", "--schedule", "--at"])
+    options = options_of(words, ["--boot", "--schedule", "--at"], "--names")
     most = number_of(options["--at"], 0, 2**32 - 1)
     boot = boot_of(options)
     directives = directives_in(options, boot)
@@ -196,7 +196,8 @@ def do_look(words, write):
             raise Enough
 
     world = World(boot, group)
-    write(look(world, directives, most, last))
+    names = names_in(options) if "--names" in options else []
+    write(name_lines(boot, names) + look(world, directives, most, last))
 
 
 def listed(options, name, is_one):

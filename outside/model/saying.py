@@ -9,7 +9,7 @@ FORMS = {
     "chart": "chart --boot FILE --schedule FILE [--from G] [--to G]",
     "explain": "explain --boot FILE [--schedule FILE | --trace FILE]",
     "count": "count --boot FILE --schedule FILE",
-    "look": "look --boot FILE --schedule FILE --at G",
+    "look": "look --boot FILE --schedule FILE --at G [--names]",
     "explore": "explore --boot FILE --depth N (--line TEXT | --stuck P..) [--move P=M].. [--calloff P=M].. [--ticks K] [--repeats K] [--acks] [--most S]",
     "drill": "drill --seed N --lines L (--machines M [--trace] | --boot FILE [--trace | --schedule])",
 }
@@ -20,13 +20,13 @@ OPTIONS = {
     "chart": ["--boot", "--schedule", "--from", "--to"],
     "explain": ["--boot", "--schedule", "--trace"],
     "count": ["--boot", "--schedule"],
-    "look": ["--boot", "--schedule", "--at"],
+    "look": ["--boot", "--schedule", "--at", "--names"],
     "explore": ["--boot", "--depth", "--line", "--stuck", "--move", "--calloff", "--ticks", "--repeats", "--acks", "--most"],
     "drill": ["--seed", "--lines", "--machines", "--boot", "--trace", "--schedule"],
 }
-FLAGS = {"explore": ["--acks"], "drill": ["--trace", "--schedule"]}
+FLAGS = {"look": ["--names"], "explore": ["--acks"], "drill": ["--trace", "--schedule"]}
 MANY = ["--stuck", "--move", "--calloff"]  # up to sixteen times
-NEEDED = {name: options for name, options in OPTIONS.items()} | {"check": ["--boot"], "chart": ["--boot", "--schedule"], "explain": ["--boot"], "explore": ["--boot", "--depth"], "drill": ["--seed", "--lines"]}
+NEEDED = {name: options for name, options in OPTIONS.items()} | {"check": ["--boot"], "chart": ["--boot", "--schedule"], "explain": ["--boot"], "look": ["--boot", "--schedule", "--at"], "explore": ["--boot", "--depth"], "drill": ["--seed", "--lines"]}
 VALUES = {"--at": "G", "--from": "G", "--to": "G", "--seed": "N", "--lines": "L", "--machines": "M", "--depth": "N"}
 RANGES = {"--at": (0, 2**32 - 1), "--from": (1, 2**32 - 1), "--to": (1, 2**32 - 1), "--seed": (0, 2**32 - 1), "--lines": (1, 10_000), "--machines": (2, 16), "--depth": (1, 64), "--ticks": (0, 255), "--repeats": (0, 255), "--most": (1, 2**32 - 1)}
 SHAPES = {

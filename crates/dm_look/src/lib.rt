@@ -5,6 +5,7 @@ mod contents;
 mod groups;
 mod letters;
 mod look;
+mod names;
 mod waiting;
 
 pub use look::look_at;

@@ -14,6 +14,7 @@ ghost use Rattle.dm_look.specs.Looked.{IsLooked, TellsLetters, held_by_world};
 
 use crate::contents::write_contents;
 use crate::groups::go_to;
+use crate::names::names_if;
 use dm_line::line::Line;
 use dm_memory::NoMemory;
 use dm_onekernel::Boot;
@@ -23,39 +24,44 @@ use dm_text::text::{write_ends, write_lines};
 use dm_world::{Stop, World};
 use std::alloc::Global;
 
-/// Does these directives on the system of a boot file until so many groups have come, and says where everything stands then.
+/// Does these directives on the system of a boot file until so many groups have come, and says where everything stands then; first the
+/// names of its processes, where they are asked for.
 pub fn look_at(
     alloc: Global,
     boot: Boot,
     directives: &[Directive],
     most: u32,
+    names: bool,
 ) -> Result<Vec<u8>, Stop>
     requires law { RunsGo }
     requires valid { IsValid boot }
     requires each { All (IsFor (length boot.machines)) directives.now }
     requires few { length directives.now ≤ MOST_SCHEDULE }
-    ensures { IsLooked by_world held_by_world boot directives.now most result }
+    ensures { IsLooked by_world held_by_world boot directives.now most names result }
 {
+    let head = match names_if(alloc, names, &boot) {
+        Ok(head) => head,
+        Err(no) => return Err(Stop::NoMemory(no)),
+    };
     let mut world = match begin(alloc, boot) {
         Ok(world) => world,
         Err(no) => return Err(Stop::NoMemory(no)),
     };
     let last = go_to(alloc, directives, most, &mut world)?;
-    match tell(alloc, last.as_slice(), &world) {
+    match tell(alloc, head, last.as_slice(), &world) {
         Ok(text) => Ok(text),
         Err(no) => Err(Stop::NoMemory(no)),
     }
 }
 
-/// The lines of a group, where everything stands behind it, and what is in the messages.
-fn tell(alloc: Global, last: &[Line], world: &World) -> Result<Vec<u8>, NoMemory>
+/// Behind a text, the lines of a group, where everything stands behind it, and what is in the messages.
+fn tell(alloc: Global, mut text: Vec<u8>, last: &[Line], world: &World) -> Result<Vec<u8>, NoMemory>
     requires law { RunsGo }
     requires running { IsRunning world.now }
     ensures { IfOk result (λ t. TellsLetters (waiting (length world.now.boot.machines) (world_state world.now))
-        (text_of_lines last.now ++ text_of_ends (ends_of world.now.boot (world_state world.now))) t.items) }
+        (text.items ++ text_of_lines last.now ++ text_of_ends (ends_of world.now.boot (world_state world.now))) t.items) }
 {
     let ends = end_lines(world)?;
-    let mut text = Vec::new(alloc);
     write_lines(last, &mut text)?;
     write_ends(ends.as_slice(), &mut text)?;
     write_contents(alloc, world, &mut text)?;
