@@ -51,6 +51,10 @@ concat-copied f done xs i d within = concat-more f done xs i (get_or xs i d) wit
 pub map-copied : {X A : Type 0} (f : X → A) (done : List A) (xs : List X) (i : ℕ) (d : X) → i < length xs → done ++ map f (drop i xs) ≡ (done ++ f (get_or xs i d) ∷ []) ++ map f (drop (i + 1) xs)
 map-copied f done xs i d within = map-more f done xs i (get_or xs i d) within (get_or_same xs i d (get_or xs i d) within)
 
+-- four pieces, as three stand behind the first
+pub append_three : (done first second third : List ℕ) → ((done ++ first) ++ second) ++ third ≡ done ++ ((first ++ second) ++ third)
+append_three done first second third = ap (λ t. t ++ third) (append_assoc done first second) ∙ append_assoc done (first ++ second) third
+
 pub ruleset each_lemmas = (each-end, each-more)
 
 pub ruleset join_lemmas = (append_assoc)

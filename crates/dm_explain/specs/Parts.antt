@@ -32,5 +32,6 @@ part_text (part.Text t) = t.now
 part_text (part.Count n) = decimal n
 part_text (part.Process p) = pid_word p
 part_text (part.Integer o) = integer_text o
+part_text (part.Name t) = t.now
 part_text (part.Quoted t) = quoted t.now
 part_text (part.Line t) = quoted t.now

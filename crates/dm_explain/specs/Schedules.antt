@@ -113,7 +113,7 @@ number_note SameMachine = []
 
 abbrev pub line_told : List ℕ → ℕ → ℕ → LineFault → List ℕ
 line_told bytes machines line fault =
-    concat (codes "schedule, line " ∷ decimal line ∷ codes ": why " ∷ decimal (number_of_fault fault) ∷ codes ": " ∷ []) ++ fault_told machines fault (line_at line (lines bytes)) ++ codes "\n" ++ number_note fault
+    concat (codes "schedule, line " ∷ decimal line ∷ codes ": why " ∷ decimal (number_of_fault fault) ∷ codes ": " ∷ []) ++ fault_told machines fault (line_at line (lines bytes)) ++ concat (codes "\n" ∷ number_note fault ∷ [])
 
 -- a schedule, or its first bad line
 abbrev pub schedule_told : List ℕ → ℕ → Schedule → List ℕ

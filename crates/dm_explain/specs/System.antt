@@ -60,7 +60,7 @@ link_told k l =
 
 unfoldable pub boot_process_told : Items → ℕ → BootProcess → List ℕ
 boot_process_told ts i p =
-    concat (codes "process " ∷ pid_word p.pid ∷ codes ": " ∷ quoted (text_in (codes "name") (get_item i ts)) ∷ codes ", image " ∷ quoted (text_in (codes "image") (get_item i ts)) ∷ codes ", links: " ∷ decimal (length p.links) ∷ codes "\n" ∷ [])
+    concat (codes "process " ∷ pid_word p.pid ∷ codes ": " ∷ quoted p.name ∷ codes ", image " ∷ quoted (text_in (codes "image") (get_item i ts)) ∷ codes ", links: " ∷ decimal (length p.links) ∷ codes "\n" ∷ [])
     ++ each link_told 0 p.links
 
 -- all of it

@@ -30,6 +30,8 @@ use Rattle.dm_explain.specs.declared.told.processes.ProcessRule.{ProcessRule}
 use Rattle.dm_explain.specs.declared.told.processes.ProcessRule.TheVariants as process_rule
 use Rattle.dm_explain.specs.declared.told.links.LinkRule.{LinkRule}
 use Rattle.dm_explain.specs.declared.told.links.LinkRule.TheVariants as link
+use Rattle.dm_explain.specs.declared.told.families.Family.{Family}
+use Rattle.dm_explain.specs.declared.told.families.Family.TheVariants as family
 use Rattle.dm_explain.specs.declared.source.Last.{Last}
 use Rattle.dm_explain.specs.declared.source.Last.TheVariants as last
 use Rattle.dm_explain.specs.BadSources.{last_of, refused_told, source_of}
@@ -93,10 +95,14 @@ top_told top_rule.Settings d = number_fault top_limits [] d
 top_told top_rule.Machines d = count_told (count (machine_tables d)) (codes "machines") 1 16
 top_told top_rule.Images d = count_told (count (image_tables d)) (codes "images") 0 256
 
+-- what is wrong with a machine
+abbrev pub machine_fault : MachineRule → Data → List ℕ
+machine_fault machine_rule.Keys t = key_fault machine_wishes [] t
+machine_fault machine_rule.Room t = number_fault machine_limits [] t
+
 -- rules of machine i
 abbrev pub machine_rule_told : MachineRule → ℕ → Data → List ℕ
-machine_rule_told machine_rule.Keys i t = place_title (codes "machine") i ++ key_fault machine_wishes [] t
-machine_rule_told machine_rule.Room i t = place_title (codes "machine") i ++ number_fault machine_limits [] t
+machine_rule_told r i t = place_title (codes "machine") i ++ machine_fault r t
 
 -- a name that is another's, or none
 abbrev pub no_name : List ℕ
@@ -189,13 +195,24 @@ bytes_told t (Ok bytes) =
     titled (codes "image") t ++ concat (decimal (length bytes) ∷ codes " bytes, and 256 times blocks = " ∷ integer_text (integer_at (codes "blocks") t) ∷ codes " have room" ∷ [])
 bytes_told t (Err refused) = []
 
+-- how image i is named, where a rule is broken, and what is wrong with it
+abbrev pub image_title : ImageRule → ℕ → Data → List ℕ
+image_title image_rule.Keys i t = place_title (codes "image") i
+image_title image_rule.Name i t = place_title (codes "image") i
+image_title image_rule.Blocks i t = titled (codes "image") t
+image_title image_rule.Text i t = []
+image_title image_rule.Bytes i t = []
+
+abbrev pub image_fault : ImageRule → Data → List ℕ
+image_fault image_rule.Keys t = key_fault image_wishes [] t
+image_fault image_rule.Name t = concat (quoted (name_at t) ∷ image_name_words (name_at t) ∷ [])
+image_fault image_rule.Blocks t = number_fault image_limits [] t
+image_fault image_rule.Text t = text_told t (text_at (codes "text") t) (assembled (text_at (codes "text") t))
+image_fault image_rule.Bytes t = bytes_told t (assembled (text_at (codes "text") t))
+
 -- rules of image i
 abbrev pub image_rule_told : ImageRule → ℕ → Data → List ℕ
-image_rule_told image_rule.Keys i t = place_title (codes "image") i ++ key_fault image_wishes [] t
-image_rule_told image_rule.Name i t = place_title (codes "image") i ++ concat (quoted (name_at t) ∷ image_name_words (name_at t) ∷ [])
-image_rule_told image_rule.Blocks i t = titled (codes "image") t ++ number_fault image_limits [] t
-image_rule_told image_rule.Text i t = text_told t (text_at (codes "text") t) (assembled (text_at (codes "text") t))
-image_rule_told image_rule.Bytes i t = bytes_told t (assembled (text_at (codes "text") t))
+image_rule_told r i t = image_title r i t ++ image_fault r t
 
 -- what is said of a link by a rule that it breaks
 abbrev pub target_told : Data → List ℕ
@@ -268,66 +285,83 @@ keys_told d t (Some k) = at_link link.Keys d t (Some k)
 abbrev pub room_told : Data → List ℕ
 room_told m = concat (codes ", which has slots = " ∷ integer_text (integer_at (codes "slots") m) ∷ codes " and blocks = " ∷ integer_text (integer_at (codes "blocks") m) ∷ [])
 
+-- the machine of a process, and those that there are
+abbrev pub home_told : Data → Data → List ℕ
+home_told d t = concat (codes "machine = " ∷ integer_text (integer_at (codes "machine") t) ∷ codes ", and the machines are " ∷ decimal (count (machine_tables d)) ∷ codes ", from 0 on" ∷ [])
+
+-- a machine has no room for a process
+abbrev pub no_room_told : Data → Data → List ℕ
+no_room_told d t = concat (codes "with those before it there is no room for it on machine " ∷ decimal (home_of t) ∷ []) ++ of_element (get_item (home_of t) (machine_tables d)) room_told
+
+-- how process i is named, where a rule is broken, and what is wrong with it
+abbrev pub process_title : ProcessRule → ℕ → Data → List ℕ
+process_title process_rule.Keys i t = place_title (codes "process") i
+process_title process_rule.Name i t = place_title (codes "process") i
+process_title process_rule.Machine i t = titled (codes "process") t
+process_title process_rule.Image i t = titled (codes "process") t
+process_title process_rule.Room i t = titled (codes "process") t
+process_title process_rule.LinkCount i t = titled (codes "process") t
+process_title process_rule.LinkTarget i t = titled (codes "process") t
+process_title process_rule.LinkLimits i t = titled (codes "process") t
+
+abbrev pub process_fault : ProcessRule → Data → Data → List ℕ
+process_fault process_rule.Keys d t = keys_told d t (bad_link link.Keys d t)
+process_fault process_rule.Name d t = concat (quoted (name_at t) ∷ process_name_words (name_at t) ∷ [])
+process_fault process_rule.Machine d t = home_told d t
+process_fault process_rule.Image d t = concat (codes "no image is named " ∷ quoted (text_at (codes "image") t) ∷ [])
+process_fault process_rule.Room d t = no_room_told d t
+process_fault process_rule.LinkCount d t = count_told (count (link_tables t)) (codes "links") 0 (slots_of (format_of d))
+process_fault process_rule.LinkTarget d t = at_link link.Target d t (bad_link link.Target d t)
+process_fault process_rule.LinkLimits d t = at_link link.Limits d t (bad_link link.Limits d t)
+
 -- rules of process i
 abbrev pub process_rule_told : ProcessRule → Data → ℕ → Data → List ℕ
-process_rule_told process_rule.Keys d i t = place_title (codes "process") i ++ keys_told d t (bad_link link.Keys d t)
-process_rule_told process_rule.Name d i t = place_title (codes "process") i ++ concat (quoted (name_at t) ∷ process_name_words (name_at t) ∷ [])
-process_rule_told process_rule.Machine d i t =
-    titled (codes "process") t ++ concat (codes "machine = " ∷ integer_text (integer_at (codes "machine") t) ∷ codes ", and the machines are " ∷ decimal (count (machine_tables d)) ∷ codes ", from 0 on" ∷ [])
-process_rule_told process_rule.Image d i t = titled (codes "process") t ++ concat (codes "no image is named " ∷ quoted (text_at (codes "image") t) ∷ [])
-process_rule_told process_rule.Room d i t =
-    titled (codes "process") t ++ concat (codes "with those before it there is no room for it on machine " ∷ decimal (home_of t) ∷ []) ++ of_element (get_item (home_of t) (machine_tables d)) room_told
-process_rule_told process_rule.LinkCount d i t = titled (codes "process") t ++ count_told (count (link_tables t)) (codes "links") 0 (slots_of (format_of d))
-process_rule_told process_rule.LinkTarget d i t = titled (codes "process") t ++ at_link link.Target d t (bad_link link.Target d t)
-process_rule_told process_rule.LinkLimits d i t = titled (codes "process") t ++ at_link link.Limits d t (bad_link link.Limits d t)
+process_rule_told r d i t = process_title r i t ++ process_fault r d t
+
+-- a rule by what it is of
+abbrev pub family_of : BootRule → Family
+family_of Document = family.Document
+family_of TopKeys = family.Top top_rule.Keys
+family_of Settings = family.Top top_rule.Settings
+family_of MachineCount = family.Top top_rule.Machines
+family_of MachineKeys = family.Machine machine_rule.Keys
+family_of MachineRoom = family.Machine machine_rule.Room
+family_of ImageCount = family.Top top_rule.Images
+family_of ImageKeys = family.Image image_rule.Keys
+family_of ImageName = family.Image image_rule.Name
+family_of ImageBlocks = family.Image image_rule.Blocks
+family_of ImageText = family.Image image_rule.Text
+family_of ImageBytes = family.Image image_rule.Bytes
+family_of ProcessKeys = family.Process process_rule.Keys
+family_of ProcessName = family.Process process_rule.Name
+family_of ProcessMachine = family.Process process_rule.Machine
+family_of ProcessImage = family.Process process_rule.Image
+family_of ProcessRoom = family.Process process_rule.Room
+family_of LinkCount = family.Process process_rule.LinkCount
+family_of LinkTarget = family.Process process_rule.LinkTarget
+family_of LinkLimits = family.Process process_rule.LinkLimits
 
 -- what is said of a rule that the element at a place breaks
-abbrev pub rule_told : BootRule → ℕ → Data → List ℕ
-rule_told Document i d = []
-rule_told TopKeys i d = top_told top_rule.Keys d
-rule_told Settings i d = top_told top_rule.Settings d
-rule_told MachineCount i d = top_told top_rule.Machines d
-rule_told MachineKeys i d = of_element (get_item i (machine_tables d)) (λ t. machine_rule_told machine_rule.Keys i t)
-rule_told MachineRoom i d = of_element (get_item i (machine_tables d)) (λ t. machine_rule_told machine_rule.Room i t)
-rule_told ImageCount i d = top_told top_rule.Images d
-rule_told ImageKeys i d = of_element (get_item i (image_tables d)) (λ t. image_rule_told image_rule.Keys i t)
-rule_told ImageName i d = of_element (get_item i (image_tables d)) (λ t. image_rule_told image_rule.Name i t)
-rule_told ImageBlocks i d = of_element (get_item i (image_tables d)) (λ t. image_rule_told image_rule.Blocks i t)
-rule_told ImageText i d = of_element (get_item i (image_tables d)) (λ t. image_rule_told image_rule.Text i t)
-rule_told ImageBytes i d = of_element (get_item i (image_tables d)) (λ t. image_rule_told image_rule.Bytes i t)
-rule_told ProcessKeys i d = of_element (get_item i (process_tables d)) (λ t. process_rule_told process_rule.Keys d i t)
-rule_told ProcessName i d = of_element (get_item i (process_tables d)) (λ t. process_rule_told process_rule.Name d i t)
-rule_told ProcessMachine i d = of_element (get_item i (process_tables d)) (λ t. process_rule_told process_rule.Machine d i t)
-rule_told ProcessImage i d = of_element (get_item i (process_tables d)) (λ t. process_rule_told process_rule.Image d i t)
-rule_told ProcessRoom i d = of_element (get_item i (process_tables d)) (λ t. process_rule_told process_rule.Room d i t)
-rule_told LinkCount i d = of_element (get_item i (process_tables d)) (λ t. process_rule_told process_rule.LinkCount d i t)
-rule_told LinkTarget i d = of_element (get_item i (process_tables d)) (λ t. process_rule_told process_rule.LinkTarget d i t)
-rule_told LinkLimits i d = of_element (get_item i (process_tables d)) (λ t. process_rule_told process_rule.LinkLimits d i t)
+abbrev pub rule_told : Family → ℕ → Data → List ℕ
+rule_told family.Document i d = []
+rule_told (family.Top r) i d = top_told r d
+rule_told (family.Machine r) i d = of_element (get_item i (machine_tables d)) (λ t. machine_rule_told r i t)
+rule_told (family.Image r) i d = of_element (get_item i (image_tables d)) (λ t. image_rule_told r i t)
+rule_told (family.Process r) i d = of_element (get_item i (process_tables d)) (λ t. process_rule_told r d i t)
 
 -- what else is said of it, in lines behind that: of the other lines of its text, and of later images
-abbrev pub behind_told : List ℕ → BootRule → ℕ → Data → List ℕ
-behind_told file Document i d = []
-behind_told file TopKeys i d = []
-behind_told file Settings i d = []
-behind_told file MachineCount i d = []
-behind_told file MachineKeys i d = []
-behind_told file MachineRoom i d = []
-behind_told file ImageCount i d = []
-behind_told file ImageKeys i d = []
-behind_told file ImageName i d = []
-behind_told file ImageBlocks i d = []
-behind_told file ImageText i d =
+abbrev pub behind_told : List ℕ → Family → ℕ → Data → List ℕ
+behind_told file family.Document i d = []
+behind_told file (family.Top r) i d = []
+behind_told file (family.Machine r) i d = []
+behind_told file (family.Image image_rule.Keys) i d = []
+behind_told file (family.Image image_rule.Name) i d = []
+behind_told file (family.Image image_rule.Blocks) i d = []
+behind_told file (family.Image image_rule.Text) i d =
     of_element (get_item i (image_tables d)) (λ t. program_told file t (text_at (codes "text") t) (assembled (text_at (codes "text") t))) ++ later_images file i 0 (image_tables d)
-behind_told file ImageBytes i d = []
-behind_told file ProcessKeys i d = []
-behind_told file ProcessName i d = []
-behind_told file ProcessMachine i d = []
-behind_told file ProcessImage i d = []
-behind_told file ProcessRoom i d = []
-behind_told file LinkCount i d = []
-behind_told file LinkTarget i d = []
-behind_told file LinkLimits i d = []
+behind_told file (family.Image image_rule.Bytes) i d = []
+behind_told file (family.Process r) i d = []
 
 -- all that is said of it, of the document of a file
 abbrev pub broken_told : List ℕ → BootRule → ℕ → Data → List ℕ
-broken_told file rule i d = rule_title rule ++ rule_told rule i d ++ codes "\n" ++ behind_told file rule i d
+broken_told file rule i d = rule_title rule ++ rule_told (family_of rule) i d ++ codes "\n" ++ behind_told file (family_of rule) i d

@@ -1,10 +1,12 @@
 //! What is said of a boot file and of a schedule, whether they break a rule or not.
-ghost use Rattle.std.specs.Prelude.{◌≡◌, ◌++◌, IfOk, None, OnOk, Some, option_map};
+ghost use Rattle.std.specs.Prelude.{◌≡◌, ◌++◌, Err, IfOk, None, Ok, OnOk, Some, option_map};
 ghost use Rattle.toml.specs.Errors.{IsWithin};
 ghost use Rattle.toml.specs.Data.{table};
 ghost use Rattle.toml.specs.View.{view};
-ghost use Rattle.dm_boot.specs.Boot.{document_of};
+ghost use Rattle.dm_onekernel.specs.Boot.{IsValid};
+ghost use Rattle.dm_boot.specs.Boot.{boot_of, document_of};
 ghost use Rattle.dm_explain.specs.Explained.{ExplainsBoot, ExplainsSchedule, IsLineSaid, IsToldValid, line_behind, unread_told};
+ghost use Rattle.dm_explain.specs.Schedules.{directives_told, line_told};
 ghost use Rattle.dm_explain.specs.SystemParts.{told_with_parts};
 ghost use Rattle.dm_explain.specs.Told.{broken_told};
 
@@ -81,16 +83,44 @@ fn explain_top(alloc: Global, bytes: &[u8], top: &Value) -> Result<BootTold, NoM
     ensures valid { IfOk result IsToldValid }
 {
     match read_boot(alloc, bytes) {
-        Ok(boot) => {
-            let text = system_text(alloc, &boot, top)?;
-            Ok(BootTold::System { boot, text })
-        }
-        Err(BootError::Refused { rule, place }) => {
-            let text = broken_text(alloc, bytes, top, rule, place)?;
-            Ok(BootTold::Refused { rule, place, text })
-        }
+        Ok(boot) => explain_system(alloc, bytes, top, boot),
+        Err(BootError::Refused { rule, place }) => explain_broken(alloc, bytes, top, rule, place),
         Err(BootError::NoMemory(no)) => Err(no),
     }
+}
+
+/// The same of a file that gives a system.
+fn explain_system(
+    alloc: Global,
+    bytes: &[u8],
+    top: &Value,
+    boot: Boot,
+) -> Result<BootTold, NoMemory>
+    requires read { option_map table (document_of bytes.now) ≡ Some (view top.now) }
+    requires says { boot_of bytes.now ≡ Ok boot }
+    requires valid { IsValid boot }
+    ensures explains { IfOk result (λ told. ExplainsBoot bytes.now told) }
+    ensures valid { IfOk result IsToldValid }
+{
+    let text = system_text(alloc, &boot, top)?;
+    Ok(BootTold::System { boot, text })
+}
+
+/// The same of a file that breaks this rule, at the element of this place.
+fn explain_broken(
+    alloc: Global,
+    bytes: &[u8],
+    top: &Value,
+    rule: BootRule,
+    place: u64,
+) -> Result<BootTold, NoMemory>
+    requires read { option_map table (document_of bytes.now) ≡ Some (view top.now) }
+    requires refused { boot_of bytes.now ≡ Err (rule, place) }
+    ensures explains { IfOk result (λ told. ExplainsBoot bytes.now told) }
+    ensures valid { IfOk result IsToldValid }
+{
+    let text = broken_text(alloc, bytes, top, rule, place)?;
+    Ok(BootTold::Refused { rule, place, text })
 }
 
 /// What a boot file says, and the parts of its system.
@@ -99,7 +129,7 @@ fn system_text(alloc: Global, boot: &Boot, top: &Value) -> Result<Vec<u8>, NoMem
 {
     let mut text = Vec::new(alloc);
     put_system(&mut text, boot, top)?;
-    put_system_parts(alloc, &mut text, boot, top)?;
+    put_system_parts(alloc, &mut text, boot)?;
     Ok(text)
 }
 
@@ -126,8 +156,7 @@ fn explain_unread(alloc: Global, bytes: &[u8]) -> Result<BootTold, NoMemory>
     ensures valid { IfOk result IsToldValid }
 {
     let unread = why_unread(alloc, bytes)?;
-    let mut text = Vec::new(alloc);
-    put_unread(&mut text, unread.line, unread.reason.as_slice())?;
+    let text = unread_text(alloc, &unread)?;
     Ok(BootTold::Refused {
         rule: BootRule::Document,
         place: 0,
@@ -145,14 +174,20 @@ fn why_unread(alloc: Global, bytes: &[u8]) -> Result<Unread, NoMemory>
             line: None,
             reason: Vec::new(alloc),
         }),
-        Err(why) => {
-            let reason = from_slice(alloc, why.message().as_bytes())?;
-            Ok(Unread {
-                line: line_said(bytes, &why),
-                reason,
-            })
-        }
+        Err(why) => unread_for(alloc, bytes, &why),
     }
+}
+
+/// The same, as the reader says.
+fn unread_for(alloc: Global, bytes: &[u8], why: &Error) -> Result<Unread, NoMemory>
+    requires { IsWithin bytes.now why.now }
+    ensures { IfOk result (λ u. IsLineSaid bytes.now u.line) }
+{
+    let reason = from_slice(alloc, why.message().as_bytes())?;
+    Ok(Unread {
+        line: line_said(bytes, why),
+        reason,
+    })
 }
 
 /// The line at which the reader says that it stopped.
@@ -179,6 +214,15 @@ fn line_behind(before: &[u8]) -> u64
     count
 }
 
+/// What is said of a file that isn't a document.
+fn unread_text(alloc: Global, unread: &Unread) -> Result<Vec<u8>, NoMemory>
+    ensures { IfOk result (λ text. text.items ≡ unread_told unread.now.line unread.now.reason.items) }
+{
+    let mut text = Vec::new(alloc);
+    put_unread(&mut text, unread.line, unread.reason.as_slice())?;
+    Ok(text)
+}
+
 /// Writes that a file isn't a document, at which line that shows, and why.
 fn put_unread(into: &mut Vec<u8>, line: Option<u64>, reason: &[u8]) -> Result<(), NoMemory>
     ensures { OnOk result (into.new.items ≡ into.old.items ++ unread_told line reason.now) }
@@ -202,16 +246,39 @@ fn put_unread(into: &mut Vec<u8>, line: Option<u64>, reason: &[u8]) -> Result<()
 pub fn explain_schedule(alloc: Global, bytes: &[u8], machines: u8) -> Result<ScheduleTold, NoMemory>
     ensures { IfOk result (λ told. ExplainsSchedule bytes.now machines told) }
 {
-    let mut text = Vec::new(alloc);
     match read_schedule(alloc, bytes, machines) {
         Ok(directives) => {
-            put_directives(&mut text, directives.as_slice())?;
+            let text = directives_text(alloc, directives.as_slice())?;
             Ok(ScheduleTold::Directives { directives, text })
         }
         Err(ScheduleError::Refused { line, fault }) => {
-            put_line(&mut text, bytes, machines, line, fault)?;
+            let text = line_text(alloc, bytes, machines, line, fault)?;
             Ok(ScheduleTold::Refused { line, fault, text })
         }
         Err(ScheduleError::NoMemory(no)) => Err(no),
     }
+}
+
+/// What is said of directives.
+fn directives_text(alloc: Global, directives: &[Directive]) -> Result<Vec<u8>, NoMemory>
+    ensures { IfOk result (λ text. text.items ≡ directives_told directives.now) }
+{
+    let mut text = Vec::new(alloc);
+    put_directives(&mut text, directives)?;
+    Ok(text)
+}
+
+/// What is said of a line that is refused.
+fn line_text(
+    alloc: Global,
+    bytes: &[u8],
+    machines: u8,
+    line: u64,
+    fault: LineFault,
+) -> Result<Vec<u8>, NoMemory>
+    ensures { IfOk result (λ text. text.items ≡ line_told bytes.now machines line fault) }
+{
+    let mut text = Vec::new(alloc);
+    put_line(&mut text, bytes, machines, line, fault)?;
+    Ok(text)
 }

@@ -4,7 +4,7 @@ ghost use Rattle.std.specs.List.{concat};
 ghost use Rattle.dm_explain.specs.Parts.{integer_text, integer_word, part_text, quoted, shown, shown_byte};
 
 use dm_link::Pid;
-use dm_memory::{NoMemory, push};
+use dm_memory::{NoMemory, extend_from_slice, push};
 use dm_text::word::{Word, put_bare};
 
 /// A part of an explanation.
@@ -16,6 +16,8 @@ pub enum Part<'a> {
     Process(Pid),
     /// An integer of a file, nothing where there is none.
     Integer(Option<i64>),
+    /// A name of a file, as it is.
+    Name(&'a [u8]),
     /// A text of a file, in quotation marks.
     Quoted(&'a str),
     /// A line of a file, in quotation marks.
@@ -44,6 +46,7 @@ fn put_part(into: &mut Vec<u8>, part: &Part) -> Result<(), NoMemory>
         Part::Process(pid) => put_bare(into, &Word::Process(pid)),
         Part::Integer(Some(n)) => put_integer(into, n),
         Part::Integer(None) => Ok(()),
+        Part::Name(name) => extend_from_slice(into, name),
         Part::Quoted(text) => put_quoted(into, text.as_bytes()),
         Part::Line(line) => put_quoted(into, line),
     }

@@ -76,7 +76,6 @@ fn is_of(keyword: Keyword, directive: &Directive) -> bool
 }
 
 /// Writes which line of a schedule for so many machines is refused, and why.
-#[tactic(auto, using(crate::proofs::Pieces::join_lemmas))]
 pub fn put_line(
     into: &mut Vec<u8>,
     bytes: &[u8],
@@ -97,8 +96,7 @@ pub fn put_line(
         ],
     )?;
     put_fault(into, machines, fault, schedule_line(bytes, line))?;
-    put(into, "\n")?;
-    put(into, number_note(fault))
+    put_parts(into, &[Part::Text("\n"), Part::Text(number_note(fault))])
 }
 
 /// What a number is, behind a line in which none stands where one must.

@@ -114,7 +114,7 @@ fn put_image(
     )
 }
 
-/// Writes the processes with their links, a line each, with their names in these tables.
+/// Writes the processes with their links, a line each, with the names of their images in these tables.
 #[tactic(auto, using(crate::proofs::Pieces::each_lemmas))]
 fn put_processes(
     into: &mut Vec<u8>,
@@ -130,11 +130,11 @@ fn put_processes(
 }
 
 #[tactic(auto, unfolding(crate::specs::System::boot_process_told))]
-fn put_process(
+fn put_process<'b>(
     into: &mut Vec<u8>,
     i: usize,
-    process: &BootProcess,
-    tables: &[Value],
+    process: &'b BootProcess,
+    tables: &'b [Value],
 ) -> Result<(), NoMemory>
     ensures { OnOk result (into.new.items ≡ into.old.items ++ boot_process_told (items_view tables.now) i process.now) }
 {
@@ -144,7 +144,7 @@ fn put_process(
             Part::Text("process "),
             Part::Process(process.pid),
             Part::Text(": "),
-            Part::Quoted(text_in(tables, i, "name")),
+            Part::Line(process.name.as_slice()),
             Part::Text(", image "),
             Part::Quoted(text_in(tables, i, "image")),
             Part::Text(", links: "),

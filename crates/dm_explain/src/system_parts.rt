@@ -1,51 +1,35 @@
 //! The parts of a system, a line each, where there is more than one.
 ghost use Rattle.std.specs.Prelude.{◌≡◌, ◌++◌, OnOk, length};
-ghost use Rattle.toml.specs.View.{items_view, view};
-ghost use Rattle.dm_boot.specs.Build.{process_tables};
 ghost use Rattle.dm_parts.specs.Parts.{parts_of};
 ghost use Rattle.dm_explain.specs.System.{each};
-ghost use Rattle.dm_explain.specs.SystemParts.{first_told, has_another, is_first, is_later, member_told, named_told, part_told, parts_told};
+ghost use Rattle.dm_explain.specs.SystemParts.{first_told, has_another, is_first, is_later, member_told, name_at, named_told, part_told, parts_told};
 
-use crate::part::put;
-use crate::system::text_in;
-use dm_boot::tables::items_at;
-use dm_memory::{NoMemory, extend_from_slice};
+use crate::part::{Part, put, put_parts};
+use dm_memory::NoMemory;
 use dm_onekernel::Boot;
+use dm_onekernel::boot::BootProcess;
 use dm_parts::parts_of;
 use std::alloc::Global;
-use toml::Value;
 
 /// Writes the parts of a system.
-pub fn put_system_parts(
-    alloc: Global,
-    into: &mut Vec<u8>,
-    boot: &Boot,
-    top: &Value,
-) -> Result<(), NoMemory>
-    ensures { OnOk result (into.new.items ≡ into.old.items ++ parts_told (process_tables (view top.now)) (length boot.now.processes) (parts_of boot.now)) }
+pub fn put_system_parts(alloc: Global, into: &mut Vec<u8>, boot: &Boot) -> Result<(), NoMemory>
+    ensures { OnOk result (into.new.items ≡ into.old.items ++ parts_told boot.now.processes (parts_of boot.now)) }
 {
     let numbers = parts_of(alloc, boot)?;
-    put_told(
-        into,
-        items_at(top, "process"),
-        boot.processes.len(),
-        numbers.as_slice(),
-    )
+    put_told(into, boot.processes.as_slice(), numbers.as_slice())
 }
 
-/// Writes the parts of these numbers, where there is more than one. The tables name the processes; the last place is the
-/// switchboard's.
+/// Writes the parts of these numbers, where there is more than one; the last number is the switchboard's.
 #[tactic(auto, unfolding(crate::specs::SystemParts::parts_told))]
 fn put_told(
     into: &mut Vec<u8>,
-    tables: &[Value],
-    last: usize,
+    processes: &[BootProcess],
     numbers: &[usize],
 ) -> Result<(), NoMemory>
-    ensures { OnOk result (into.new.items ≡ into.old.items ++ parts_told (items_view tables.now) last numbers.now) }
+    ensures { OnOk result (into.new.items ≡ into.old.items ++ parts_told processes.now numbers.now) }
 {
-    if has_another(last, numbers) {
-        put_firsts(into, tables, last, numbers)
+    if has_another(processes.len(), numbers) {
+        put_firsts(into, processes, numbers)
     } else {
         Ok(())
     }
@@ -81,14 +65,13 @@ fn is_first(last: usize, place: usize, number: usize) -> bool
 #[tactic(auto, using(crate::proofs::Pieces::each_lemmas))]
 fn put_firsts(
     into: &mut Vec<u8>,
-    tables: &[Value],
-    last: usize,
+    processes: &[BootProcess],
     numbers: &[usize],
 ) -> Result<(), NoMemory>
-    ensures { OnOk result (into.new.items ≡ into.old.items ++ each (first_told (items_view tables.now) last numbers.now) 0 numbers.now) }
+    ensures { OnOk result (into.new.items ≡ into.old.items ++ each (first_told processes.now numbers.now) 0 numbers.now) }
 {
     for (place, number) in numbers.iter().enumerate() {
-        put_first(into, tables, last, numbers, place, *number)?;
+        put_first(into, processes, numbers, place, *number)?;
     }
     Ok(())
 }
@@ -96,35 +79,31 @@ fn put_firsts(
 #[tactic(auto, unfolding(crate::specs::SystemParts::first_told))]
 fn put_first(
     into: &mut Vec<u8>,
-    tables: &[Value],
-    last: usize,
+    processes: &[BootProcess],
     numbers: &[usize],
     place: usize,
     number: usize,
 ) -> Result<(), NoMemory>
-    ensures { OnOk result (into.new.items ≡ into.old.items ++ first_told (items_view tables.now) last numbers.now place number) }
+    ensures { OnOk result (into.new.items ≡ into.old.items ++ first_told processes.now numbers.now place number) }
 {
-    if is_first(last, place, number) {
-        put_part(into, tables, last, numbers, place)
+    if is_first(processes.len(), place, number) {
+        put_part(into, processes, numbers, place)
     } else {
         Ok(())
     }
 }
 
 /// Writes a part.
-#[tactic(auto, unfolding(crate::specs::SystemParts::part_told), using(crate::proofs::Pieces::join_lemmas))]
 fn put_part(
     into: &mut Vec<u8>,
-    tables: &[Value],
-    last: usize,
+    processes: &[BootProcess],
     numbers: &[usize],
     part: usize,
 ) -> Result<(), NoMemory>
-    ensures { OnOk result (into.new.items ≡ into.old.items ++ part_told (items_view tables.now) last numbers.now part) }
+    ensures { OnOk result (into.new.items ≡ into.old.items ++ part_told processes.now numbers.now part) }
 {
-    put(into, "part: ")?;
-    put_named(into, tables, last, part)?;
-    put_members(into, tables, last, part, numbers)?;
+    put_named(into, "part: ", processes, part)?;
+    put_members(into, processes, part, numbers)?;
     put(into, "\n")
 }
 
@@ -132,58 +111,56 @@ fn put_part(
 #[tactic(auto, using(crate::proofs::Pieces::each_lemmas))]
 fn put_members(
     into: &mut Vec<u8>,
-    tables: &[Value],
-    last: usize,
+    processes: &[BootProcess],
     part: usize,
     numbers: &[usize],
 ) -> Result<(), NoMemory>
-    ensures { OnOk result (into.new.items ≡ into.old.items ++ each (member_told (items_view tables.now) last part) 0 numbers.now) }
+    ensures { OnOk result (into.new.items ≡ into.old.items ++ each (member_told processes.now part) 0 numbers.now) }
 {
     for (place, number) in numbers.iter().enumerate() {
-        put_member(into, tables, last, part, place, *number)?;
+        put_member(into, processes, part, place, *number)?;
     }
     Ok(())
 }
 
-#[tactic(auto, unfolding(crate::specs::SystemParts::member_told), using(crate::proofs::Pieces::join_lemmas))]
+#[tactic(auto, unfolding(crate::specs::SystemParts::member_told))]
 fn put_member(
     into: &mut Vec<u8>,
-    tables: &[Value],
-    last: usize,
+    processes: &[BootProcess],
     part: usize,
     place: usize,
     number: usize,
 ) -> Result<(), NoMemory>
-    ensures { OnOk result (into.new.items ≡ into.old.items ++ member_told (items_view tables.now) last part place number) }
+    ensures { OnOk result (into.new.items ≡ into.old.items ++ member_told processes.now part place number) }
 {
     if number == part && part < place {
-        put(into, ", ")?;
-        put_named(into, tables, last, place)
+        put_named(into, ", ", processes, place)
     } else {
         Ok(())
     }
 }
 
-/// Writes who stands at a place.
-#[tactic(auto, unfolding(crate::specs::SystemParts::named_told))]
+/// Writes words, and who stands at a place.
 fn put_named(
     into: &mut Vec<u8>,
-    tables: &[Value],
-    last: usize,
+    words: &'static str,
+    processes: &[BootProcess],
     place: usize,
 ) -> Result<(), NoMemory>
-    ensures { OnOk result (into.new.items ≡ into.old.items ++ named_told (items_view tables.now) last place) }
+    ensures { OnOk result (into.new.items ≡ into.old.items ++ named_told words.now processes.now place) }
 {
-    if place == last {
-        put(into, "switchboard")
-    } else {
-        put_text(into, text_in(tables, place, "name"))
-    }
+    put_parts(
+        into,
+        &[Part::Text(words), Part::Name(name_at(processes, place))],
+    )
 }
 
-/// Writes a text of a file as it is.
-pub fn put_text(into: &mut Vec<u8>, text: &str) -> Result<(), NoMemory>
-    ensures { OnOk result (into.new.items ≡ into.old.items ++ text.now) }
+/// Who stands at a place.
+fn name_at(processes: &[BootProcess], place: usize) -> &[u8]
+    ensures { result.now ≡ name_at processes.now place }
 {
-    extend_from_slice(into, text.as_bytes())
+    match processes.get(place) {
+        Some(process) => process.name.as_slice(),
+        None => b"switchboard",
+    }
 }

@@ -1,6 +1,6 @@
 //! The keys that tables of a boot file may have, and the limits of their numbers.
-ghost use Rattle.std.specs.Prelude.{◌≡◌, map};
-ghost use Rattle.dm_explain.specs.Wanted.{channel_limits, control_wishes, image_limits, image_wishes, limit, limit_of, link_limits, link_wishes, machine_limits, machine_wishes, may, must, process_wishes, sort_words, top_limits, top_wishes, wish_of};
+ghost use Rattle.std.specs.Prelude.{◌≡◌};
+ghost use Rattle.dm_explain.specs.Wanted.{sort_words};
 
 /// What a value must be.
 #[derive(Clone, Copy)]
@@ -37,97 +37,147 @@ pub struct Key {
     pub needed: bool,
 }
 
-/// A key that must be there.
-fn needed(name: &'static str, sort: Sort) -> Key
-    ensures { wish_of result ≡ must name.now sort }
-{
-    Key {
-        name,
-        sort,
-        needed: true,
-    }
-}
-
-/// A key that may be there.
-fn optional(name: &'static str, sort: Sort) -> Key
-    ensures { wish_of result ≡ may name.now sort }
-{
-    Key {
-        name,
-        sort,
-        needed: false,
-    }
-}
-
 /// The keys of the top table.
-pub fn top_keys() -> [Key; 6]
-    ensures { map wish_of result ≡ top_wishes }
-{
-    [
-        optional("format", Sort::Integer),
-        optional("numbers", Sort::Integer),
-        optional("quantum", Sort::Integer),
-        optional("machine", Sort::Array),
-        optional("image", Sort::Array),
-        optional("process", Sort::Array),
-    ]
-}
+pub const TOP_KEYS: [Key; 6] = [
+    Key {
+        name: "format",
+        sort: Sort::Integer,
+        needed: false,
+    },
+    Key {
+        name: "numbers",
+        sort: Sort::Integer,
+        needed: false,
+    },
+    Key {
+        name: "quantum",
+        sort: Sort::Integer,
+        needed: false,
+    },
+    Key {
+        name: "machine",
+        sort: Sort::Array,
+        needed: false,
+    },
+    Key {
+        name: "image",
+        sort: Sort::Array,
+        needed: false,
+    },
+    Key {
+        name: "process",
+        sort: Sort::Array,
+        needed: false,
+    },
+];
 
 /// The keys of a machine.
-pub fn machine_keys() -> [Key; 2]
-    ensures { map wish_of result ≡ machine_wishes }
-{
-    [
-        needed("slots", Sort::Integer),
-        needed("blocks", Sort::Integer),
-    ]
-}
+pub const MACHINE_KEYS: [Key; 2] = [
+    Key {
+        name: "slots",
+        sort: Sort::Integer,
+        needed: true,
+    },
+    Key {
+        name: "blocks",
+        sort: Sort::Integer,
+        needed: true,
+    },
+];
 
 /// The keys of an image.
-pub fn image_keys() -> [Key; 3]
-    ensures { map wish_of result ≡ image_wishes }
-{
-    [
-        needed("name", Sort::Text),
-        needed("blocks", Sort::Integer),
-        needed("text", Sort::Text),
-    ]
-}
+pub const IMAGE_KEYS: [Key; 3] = [
+    Key {
+        name: "name",
+        sort: Sort::Text,
+        needed: true,
+    },
+    Key {
+        name: "blocks",
+        sort: Sort::Integer,
+        needed: true,
+    },
+    Key {
+        name: "text",
+        sort: Sort::Text,
+        needed: true,
+    },
+];
 
 /// The keys of a process.
-pub fn process_keys() -> [Key; 4]
-    ensures { map wish_of result ≡ process_wishes }
-{
-    [
-        needed("name", Sort::Text),
-        needed("image", Sort::Text),
-        needed("machine", Sort::Integer),
-        optional("links", Sort::Array),
-    ]
-}
+pub const PROCESS_KEYS: [Key; 4] = [
+    Key {
+        name: "name",
+        sort: Sort::Text,
+        needed: true,
+    },
+    Key {
+        name: "image",
+        sort: Sort::Text,
+        needed: true,
+    },
+    Key {
+        name: "machine",
+        sort: Sort::Integer,
+        needed: true,
+    },
+    Key {
+        name: "links",
+        sort: Sort::Array,
+        needed: false,
+    },
+];
 
 /// The keys of a link.
-pub fn link_keys() -> [Key; 8]
-    ensures { map wish_of result ≡ link_wishes }
-{
-    [
-        needed("to", Sort::Text),
-        optional("code", Sort::Integer),
-        optional("channel", Sort::Integer),
-        optional("base", Sort::Place),
-        optional("len", Sort::Place),
-        optional("reply", Sort::Truth),
-        optional("read", Sort::Truth),
-        optional("write", Sort::Truth),
-    ]
-}
+pub const LINK_KEYS: [Key; 8] = [
+    Key {
+        name: "to",
+        sort: Sort::Text,
+        needed: true,
+    },
+    Key {
+        name: "code",
+        sort: Sort::Integer,
+        needed: false,
+    },
+    Key {
+        name: "channel",
+        sort: Sort::Integer,
+        needed: false,
+    },
+    Key {
+        name: "base",
+        sort: Sort::Place,
+        needed: false,
+    },
+    Key {
+        name: "len",
+        sort: Sort::Place,
+        needed: false,
+    },
+    Key {
+        name: "reply",
+        sort: Sort::Truth,
+        needed: false,
+    },
+    Key {
+        name: "read",
+        sort: Sort::Truth,
+        needed: false,
+    },
+    Key {
+        name: "write",
+        sort: Sort::Truth,
+        needed: false,
+    },
+];
 
 /// The keys of a link that controls.
-pub fn control_keys() -> [Key; 1]
-    ensures { map wish_of result ≡ control_wishes }
-{
-    [needed("control", Sort::Text)]
-}
+pub const CONTROL_KEYS: [Key; 1] = [Key {
+    name: "control",
+    sort: Sort::Text,
+    needed: true,
+}];
 
 /// The least and the most that a number may be.
 #[derive(Clone, Copy)]
@@ -137,53 +187,73 @@ pub struct Range {
     pub most: u32,
 }
 
-/// The bounds of a number.
-fn within(name: &'static str, least: u32, most: u32) -> Range
-    ensures { limit_of result ≡ limit name.now least most }
-{
-    Range { name, least, most }
-}
-
 /// The limits of the settings.
-pub fn top_ranges() -> [Range; 3]
-    ensures { map limit_of result ≡ top_limits }
-{
-    [
-        within("numbers", 1, 1_048_576),
-        within("quantum", 1, 1000),
-        within("format", 1, 2),
-    ]
-}
+pub const TOP_RANGES: [Range; 3] = [
+    Range {
+        name: "numbers",
+        least: 1,
+        most: 1_048_576,
+    },
+    Range {
+        name: "quantum",
+        least: 1,
+        most: 1000,
+    },
+    Range {
+        name: "format",
+        least: 1,
+        most: 2,
+    },
+];
 
 /// The limits of a machine.
-pub fn machine_ranges() -> [Range; 2]
-    ensures { map limit_of result ≡ machine_limits }
-{
-    [within("slots", 0, 64), within("blocks", 0, 4096)]
-}
+pub const MACHINE_RANGES: [Range; 2] = [
+    Range {
+        name: "slots",
+        least: 0,
+        most: 64,
+    },
+    Range {
+        name: "blocks",
+        least: 0,
+        most: 4096,
+    },
+];
 
 /// The limits of an image.
-pub fn image_ranges() -> [Range; 1]
-    ensures { map limit_of result ≡ image_limits }
-{
-    [within("blocks", 1, 256)]
-}
+pub const IMAGE_RANGES: [Range; 1] = [Range {
+    name: "blocks",
+    least: 1,
+    most: 256,
+}];
 
 /// The limits of a link's channel.
-pub fn channel_ranges() -> [Range; 1]
-    ensures { map limit_of result ≡ channel_limits }
-{
-    [within("channel", 0, 31)]
-}
+pub const CHANNEL_RANGES: [Range; 1] = [Range {
+    name: "channel",
+    least: 0,
+    most: 31,
+}];
 
 /// The limits of a link to a process.
-pub fn link_ranges() -> [Range; 4]
-    ensures { map limit_of result ≡ link_limits }
-{
-    [
-        within("channel", 0, 31),
-        within("code", 0, 4_294_967_295),
-        within("base", 0, 65_536),
-        within("len", 0, 65_536),
-    ]
-}
+pub const LINK_RANGES: [Range; 4] = [
+    Range {
+        name: "channel",
+        least: 0,
+        most: 31,
+    },
+    Range {
+        name: "code",
+        least: 0,
+        most: 4_294_967_295,
+    },
+    Range {
+        name: "base",
+        least: 0,
+        most: 65_536,
+    },
+    Range {
+        name: "len",
+        least: 0,
+        most: 65_536,
+    },
+];

@@ -72,11 +72,11 @@ impl<'t> Labels<'t> {
         }
     }
 
-    /// The labels of a text.
-    pub fn of(alloc: Global, text: &'t [u8]) -> Result<Labels<'t>, NoMemory>
-        ensures ok { IfOk result (λ labels. place_in labels ≡ places_of text.now) }
+    /// Adds the labels of a text, where none is there yet.
+    fn define_all(&mut self, text: &'t [u8]) -> Result<(), NoMemory>
+        requires { (q : List ℕ) → place_in self.now q ≡ None }
+        ensures ok { OnOk result (place_in self.new ≡ places_of text.now) }
     {
-        let mut labels = Labels::new(alloc);
         let mut spot = Spot {
             line: 1,
             address: 0,
@@ -84,13 +84,22 @@ impl<'t> Labels<'t> {
         let mut rest = text;
         while !rest.is_empty() {
             let (line, behind) = first_source_line(rest);
-            labels.add_line(line, spot)?;
+            self.add_line(line, spot)?;
             spot = Spot {
                 line: spot.line + 1,
                 address: spot.address + line_counted(spot.address, line) as u128,
             };
             rest = behind;
         }
+        Ok(())
+    }
+
+    /// The labels of a text.
+    pub fn of(alloc: Global, text: &'t [u8]) -> Result<Labels<'t>, NoMemory>
+        ensures ok { IfOk result (λ labels. place_in labels ≡ places_of text.now) }
+    {
+        let mut labels = Labels::new(alloc);
+        labels.define_all(text)?;
         Ok(labels)
     }
 }

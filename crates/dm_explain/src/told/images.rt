@@ -3,14 +3,14 @@ ghost use Rattle.std.specs.Prelude.{◌≡◌, ◌++◌, Ok, OnOk, codes};
 ghost use Rattle.toml.specs.View.{view};
 ghost use Rattle.dm_asm.specs.Assembled.{assembled};
 ghost use Rattle.dm_boot.specs.Tables.{text_at};
-ghost use Rattle.dm_explain.specs.Told.{bytes_told, image_name_words, image_rule_told, machine_rule_told, text_told};
+ghost use Rattle.dm_explain.specs.Told.{bytes_told, image_fault, image_name_words, image_rule_told, image_title, machine_fault, machine_rule_told, text_told};
 
 use crate::faults::{integer_at, put_key_fault, put_number_fault};
 use crate::line::text_line;
 use crate::part::{Part, put_parts};
 use crate::told::elements::{put_name, put_numbered, put_titled};
 use crate::told::programs::put_line;
-use crate::wanted::{image_keys, image_ranges, machine_keys, machine_ranges};
+use crate::wanted::{IMAGE_KEYS, IMAGE_RANGES, MACHINE_KEYS, MACHINE_RANGES};
 use dm_asm::{AssembleError, Image, assemble};
 use dm_boot::names::is_name;
 use dm_boot::tables::text_at;
@@ -35,7 +35,7 @@ pub enum ImageRule {
     Bytes,
 }
 
-/// Writes what is wrong with a machine.
+/// Writes what is wrong with a machine, and which it is.
 pub(super) fn put_machine(
     into: &mut Vec<u8>,
     rule: MachineRule,
@@ -44,19 +44,23 @@ pub(super) fn put_machine(
 ) -> Result<(), NoMemory>
     ensures { OnOk result (into.new.items ≡ into.old.items ++ machine_rule_told rule place (view machine.now)) }
 {
+    put_numbered(into, "machine", place)?;
+    put_machine_fault(into, rule, machine)
+}
+
+/// Writes what is wrong with a machine.
+fn put_machine_fault(into: &mut Vec<u8>, rule: MachineRule, machine: &Value) -> Result<(), NoMemory>
+    ensures { OnOk result (into.new.items ≡ into.old.items ++ machine_fault rule (view machine.now)) }
+{
     match rule {
         MachineRule::Keys => {
-            put_numbered(into, "machine", place)?;
-            put_key_fault(into, machine, &machine_keys(), &["slots", "blocks"], &[])
+            put_key_fault(into, machine, &MACHINE_KEYS, &["slots", "blocks"], &[])
         }
-        MachineRule::Room => {
-            put_numbered(into, "machine", place)?;
-            put_number_fault(into, machine, &machine_ranges(), &[])
-        }
+        MachineRule::Room => put_number_fault(into, machine, &MACHINE_RANGES, &[]),
     }
 }
 
-/// Writes what is wrong with an image.
+/// Writes what is wrong with an image, and which it is.
 pub(super) fn put_image(
     alloc: Global,
     into: &mut Vec<u8>,
@@ -66,19 +70,41 @@ pub(super) fn put_image(
 ) -> Result<(), NoMemory>
     ensures { OnOk result (into.new.items ≡ into.old.items ++ image_rule_told rule place (view image.now)) }
 {
+    put_image_title(into, rule, place, image)?;
+    put_image_fault(alloc, into, rule, image)
+}
+
+/// Writes which image it is that breaks a rule; what is said of its text and its bytes names it by itself.
+fn put_image_title(
+    into: &mut Vec<u8>,
+    rule: ImageRule,
+    place: u64,
+    image: &Value,
+) -> Result<(), NoMemory>
+    ensures { OnOk result (into.new.items ≡ into.old.items ++ image_title rule place (view image.now)) }
+{
+    match rule {
+        ImageRule::Keys | ImageRule::Name => put_numbered(into, "image", place),
+        ImageRule::Blocks => put_titled(into, "image", image),
+        ImageRule::Text | ImageRule::Bytes => Ok(()),
+    }
+}
+
+/// Writes what is wrong with an image.
+fn put_image_fault(
+    alloc: Global,
+    into: &mut Vec<u8>,
+    rule: ImageRule,
+    image: &Value,
+) -> Result<(), NoMemory>
+    ensures { OnOk result (into.new.items ≡ into.old.items ++ image_fault rule (view image.now)) }
+{
     match rule {
         ImageRule::Keys => {
-            put_numbered(into, "image", place)?;
-            put_key_fault(into, image, &image_keys(), &["name", "blocks", "text"], &[])
+            put_key_fault(into, image, &IMAGE_KEYS, &["name", "blocks", "text"], &[])
         }
-        ImageRule::Name => {
-            put_numbered(into, "image", place)?;
-            put_name(into, image, image_name_words(text_at(image, "name")))
-        }
-        ImageRule::Blocks => {
-            put_titled(into, "image", image)?;
-            put_number_fault(into, image, &image_ranges(), &[])
-        }
+        ImageRule::Name => put_name(into, image, image_name_words(text_at(image, "name"))),
+        ImageRule::Blocks => put_number_fault(into, image, &IMAGE_RANGES, &[]),
         ImageRule::Text => put_text(alloc, into, image),
         ImageRule::Bytes => put_bytes(alloc, into, image),
     }

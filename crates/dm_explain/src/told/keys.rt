@@ -11,7 +11,7 @@ ghost use Rattle.dm_explain.specs.Wanted.{top_wishes};
 
 use crate::faults::{put_key_fault, put_number_fault};
 use crate::part::{Part, put_parts};
-use crate::wanted::{top_keys, top_ranges};
+use crate::wanted::{TOP_KEYS, TOP_RANGES};
 use dm_boot::tables::items_at;
 use dm_memory::NoMemory;
 use toml::Value;
@@ -32,7 +32,7 @@ pub(super) fn put_top(into: &mut Vec<u8>, top: &Value, rule: TopRule) -> Result<
 {
     match rule {
         TopRule::Keys => put_top_keys(into, top),
-        TopRule::Settings => put_number_fault(into, top, &top_ranges(), &[]),
+        TopRule::Settings => put_number_fault(into, top, &TOP_RANGES, &[]),
         TopRule::Machines => { put_count(into, items_at(top, "machine").len(), "machines", 1, 16) }
         TopRule::Images => put_count(into, items_at(top, "image").len(), "images", 0, 256),
     }
@@ -103,7 +103,7 @@ fn put_top_fault(into: &mut Vec<u8>, top: &Value, other: &[Part]) -> Result<(), 
     put_key_fault(
         into,
         top,
-        &top_keys(),
+        &TOP_KEYS,
         &[
             "format", "numbers", "quantum", "machine", "image", "process",
         ],

@@ -13,7 +13,7 @@ ghost use Rattle.dm_explain.specs.Told.{area_told, at_link, bad_link, image_name
 use crate::faults::{put_key_fault, put_number_fault};
 use crate::part::{Part, put, put_parts};
 use crate::told::elements::{element, put_numbered};
-use crate::wanted::{channel_ranges, control_keys, link_keys, link_ranges};
+use crate::wanted::{CHANNEL_RANGES, CONTROL_KEYS, LINK_KEYS, LINK_RANGES};
 use dm_asm::label_address;
 use dm_boot::document::Document;
 use dm_boot::names::is_server;
@@ -122,11 +122,11 @@ fn put_table_keys(into: &mut Vec<u8>, link: &Value) -> Result<(), NoMemory>
     ensures { OnOk result (into.new.items ≡ into.old.items ++ table_keys_told (view link.now) (get (codes "control") (view link.now))) }
 {
     match link.get("control") {
-        Some(_) => put_key_fault(into, link, &control_keys(), &["control"], &[]),
+        Some(_) => put_key_fault(into, link, &CONTROL_KEYS, &["control"], &[]),
         None => put_key_fault(
             into,
             link,
-            &link_keys(),
+            &LINK_KEYS,
             &[
                 "to", "code", "channel", "base", "len", "reply", "read", "write",
             ],
@@ -165,7 +165,7 @@ fn put_limits(into: &mut Vec<u8>, document: &Document<'_>, link: &Value) -> Resu
     let to = text_at(link, "to");
     if is_server(to) {
         let words = "a link to a server has no code, base, len, read or write";
-        return put_number_fault(into, link, &channel_ranges(), &[Part::Text(words)]);
+        return put_number_fault(into, link, &CHANNEL_RANGES, &[Part::Text(words)]);
     }
     put_places(into, document, link, to)
 }
@@ -218,7 +218,7 @@ fn put_no_line<'d>(
     put_number_fault(
         into,
         link,
-        &link_ranges(),
+        &LINK_RANGES,
         &[
             Part::Text(key),
             Part::Text(" = "),
@@ -237,7 +237,7 @@ fn put_before(into: &mut Vec<u8>, link: &Value) -> Result<(), NoMemory>
     put_number_fault(
         into,
         link,
-        &link_ranges(),
+        &LINK_RANGES,
         &[
             Part::Text("len = "),
             Part::Quoted(text_at(link, "len")),
@@ -260,7 +260,7 @@ fn put_area(
     put_number_fault(
         into,
         link,
-        &link_ranges(),
+        &LINK_RANGES,
         &[
             Part::Text("base and len are more than "),
             Part::Count(u64::from(size)),

@@ -5,9 +5,10 @@ ghost use Rattle.toml.specs.View.{items_view, view};
 ghost use Rattle.dm_asm.specs.Assembled.{assembled};
 ghost use Rattle.dm_boot.specs.Build.{image_tables, machine_tables, process_tables};
 ghost use Rattle.dm_boot.specs.Tables.{text_at};
-ghost use Rattle.dm_explain.specs.Told.{behind_told, broken_told, image_rule_told, later_images, machine_rule_told, of_element, process_rule_told, program_told, rule_told, whole_program_told};
+ghost use Rattle.dm_explain.specs.Told.{behind_told, broken_told, family_of, image_rule_told, later_images, machine_rule_told, of_element, process_rule_told, program_told, rule_title, rule_told, whole_program_told};
 
 mod elements;
+mod families;
 mod images;
 mod keys;
 mod links;
@@ -21,8 +22,9 @@ use dm_boot::document::Document;
 use dm_boot::tables::items_at;
 use dm_memory::NoMemory;
 use elements::element;
+use families::{Family, family_of};
 use images::{ImageRule, MachineRule, put_image, put_machine};
-use keys::{TopRule, put_top};
+use keys::put_top;
 use processes::{ProcessRule, put_process};
 use programs::{put_program, put_title, put_whole_program};
 use std::alloc::Global;
@@ -44,7 +46,6 @@ pub fn put_broken(
 }
 
 /// Writes the same of a document.
-#[tactic(auto, using(crate::proofs::Pieces::join_lemmas))]
 fn put_told(
     alloc: Global,
     into: &mut Vec<u8>,
@@ -55,10 +56,25 @@ fn put_told(
 ) -> Result<(), NoMemory>
     ensures { OnOk result (into.new.items ≡ into.old.items ++ broken_told file.now rule place (view document.now.top.now)) }
 {
+    let family = family_of(rule);
+    put_line(alloc, into, document, rule, family, place)?;
+    put_behind(alloc, into, file, document.top, family, place)
+}
+
+/// Writes how a rule is named, and what is said of it, as a line.
+fn put_line(
+    alloc: Global,
+    into: &mut Vec<u8>,
+    document: &Document<'_>,
+    rule: BootRule,
+    family: Family,
+    place: u64,
+) -> Result<(), NoMemory>
+    ensures { OnOk result (into.new.items ≡ into.old.items ++ (rule_title rule ++ rule_told family place (view document.now.top.now) ++ codes "\n")) }
+{
     put_title(into, rule)?;
-    put_rule(alloc, into, document, rule, place)?;
-    put(into, "\n")?;
-    put_behind(alloc, into, file, document, rule, place)
+    put_rule(alloc, into, document, family, place)?;
+    put(into, "\n")
 }
 
 /// Writes what else is said of it, in lines behind that: of the other lines of its text, and of later images.
@@ -67,36 +83,22 @@ fn put_behind(
     alloc: Global,
     into: &mut Vec<u8>,
     file: &[u8],
-    document: &Document<'_>,
-    rule: BootRule,
+    top: &Value,
+    family: Family,
     place: u64,
 ) -> Result<(), NoMemory>
-    ensures { OnOk result (into.new.items ≡ into.old.items ++ behind_told file.now rule place (view document.now.top.now)) }
+    ensures { OnOk result (into.new.items ≡ into.old.items ++ behind_told file.now family place (view top.now)) }
 {
-    match rule {
-        BootRule::ImageText => {
-            put_program_at(alloc, into, file, document.top, place)?;
-            put_later_images(alloc, into, file, items_at(document.top, "image"), place)
+    match family {
+        Family::Image(ImageRule::Text) => {
+            put_program_at(alloc, into, file, top, place)?;
+            put_later_images(alloc, into, file, items_at(top, "image"), place)
         }
-        BootRule::Document
-        | BootRule::TopKeys
-        | BootRule::Settings
-        | BootRule::MachineCount
-        | BootRule::MachineKeys
-        | BootRule::MachineRoom
-        | BootRule::ImageCount
-        | BootRule::ImageKeys
-        | BootRule::ImageName
-        | BootRule::ImageBlocks
-        | BootRule::ImageBytes
-        | BootRule::ProcessKeys
-        | BootRule::ProcessName
-        | BootRule::ProcessMachine
-        | BootRule::ProcessImage
-        | BootRule::ProcessRoom
-        | BootRule::LinkCount
-        | BootRule::LinkTarget
-        | BootRule::LinkLimits => Ok(()),
+        Family::Image(ImageRule::Keys | ImageRule::Name | ImageRule::Blocks | ImageRule::Bytes)
+        | Family::Document
+        | Family::Top(_)
+        | Family::Machine(_)
+        | Family::Process(_) => Ok(()),
     }
 }
 
@@ -205,32 +207,16 @@ fn put_rule(
     alloc: Global,
     into: &mut Vec<u8>,
     document: &Document<'_>,
-    rule: BootRule,
+    family: Family,
     place: u64,
 ) -> Result<(), NoMemory>
-    ensures { OnOk result (into.new.items ≡ into.old.items ++ rule_told rule place (view document.now.top.now)) }
+    ensures { OnOk result (into.new.items ≡ into.old.items ++ rule_told family place (view document.now.top.now)) }
 {
-    let top = document.top;
-    match rule {
-        BootRule::Document => Ok(()),
-        BootRule::TopKeys => put_top(into, top, TopRule::Keys),
-        BootRule::Settings => put_top(into, top, TopRule::Settings),
-        BootRule::MachineCount => put_top(into, top, TopRule::Machines),
-        BootRule::ImageCount => put_top(into, top, TopRule::Images),
-        BootRule::MachineKeys => put_machine_at(into, top, MachineRule::Keys, place),
-        BootRule::MachineRoom => put_machine_at(into, top, MachineRule::Room, place),
-        BootRule::ImageKeys => put_image_at(alloc, into, top, ImageRule::Keys, place),
-        BootRule::ImageName => put_image_at(alloc, into, top, ImageRule::Name, place),
-        BootRule::ImageBlocks => put_image_at(alloc, into, top, ImageRule::Blocks, place),
-        BootRule::ImageText => put_image_at(alloc, into, top, ImageRule::Text, place),
-        BootRule::ImageBytes => put_image_at(alloc, into, top, ImageRule::Bytes, place),
-        BootRule::ProcessKeys => put_process_at(into, document, ProcessRule::Keys, place),
-        BootRule::ProcessName => put_process_at(into, document, ProcessRule::Name, place),
-        BootRule::ProcessMachine => put_process_at(into, document, ProcessRule::Machine, place),
-        BootRule::ProcessImage => put_process_at(into, document, ProcessRule::Image, place),
-        BootRule::ProcessRoom => put_process_at(into, document, ProcessRule::Room, place),
-        BootRule::LinkCount => put_process_at(into, document, ProcessRule::LinkCount, place),
-        BootRule::LinkTarget => put_process_at(into, document, ProcessRule::LinkTarget, place),
-        BootRule::LinkLimits => put_process_at(into, document, ProcessRule::LinkLimits, place),
+    match family {
+        Family::Document => Ok(()),
+        Family::Top(rule) => put_top(into, document.top, rule),
+        Family::Machine(rule) => put_machine_at(into, document.top, rule, place),
+        Family::Image(rule) => put_image_at(alloc, into, document.top, rule, place),
+        Family::Process(rule) => put_process_at(into, document, rule, place),
     }
 }

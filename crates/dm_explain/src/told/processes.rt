@@ -1,21 +1,19 @@
 //! What is said of processes.
 ghost use Rattle.std.specs.Prelude.{◌≡◌, ◌∷◌, ◌++◌, [], OnOk, codes};
 ghost use Rattle.std.specs.List.{concat};
-ghost use Rattle.std.specs.Fmt.{decimal};
 ghost use Rattle.toml.specs.View.{view};
-ghost use Rattle.toml.specs.Data.{get_item};
-ghost use Rattle.dm_boot.specs.Build.{home_of, machine_tables};
-ghost use Rattle.dm_boot.specs.Tables.{count};
-ghost use Rattle.dm_explain.specs.Faults.{integer_at};
-ghost use Rattle.dm_explain.specs.Parts.{integer_text};
-ghost use Rattle.dm_explain.specs.Told.{bad_link, keys_told, of_element, process_name_words, process_rule_told, room_told};
+ghost use Rattle.dm_onekernel.specs.Boot.{slots_of};
+ghost use Rattle.dm_boot.specs.Build.{format_of, link_tables};
+ghost use Rattle.dm_boot.specs.Tables.{count, text_at};
+ghost use Rattle.dm_explain.specs.Parts.{quoted};
+ghost use Rattle.dm_explain.specs.Told.{bad_link, count_told, home_told, keys_told, name_at, no_room_told, process_fault, process_name_words, process_rule_told, process_title, room_told};
 
 use crate::faults::{integer_at, put_key_fault};
 use crate::part::{Part, put_parts};
 use crate::told::elements::{element, put_name, put_numbered, put_titled};
 use crate::told::keys::put_count;
 use crate::told::links::{LinkRule, bad_link, put_bad_link, put_link_at};
-use crate::wanted::process_keys;
+use crate::wanted::PROCESS_KEYS;
 use dm_boot::document::Document;
 use dm_boot::limits::{format_of, machine_number};
 use dm_boot::names::{is_name, is_server};
@@ -36,8 +34,7 @@ pub enum ProcessRule {
     LinkLimits,
 }
 
-/// Writes what is wrong with a process.
-#[tactic(auto, using(crate::proofs::Pieces::join_lemmas, dm_boot::proofs::Elements::count_lemmas))]
+/// Writes what is wrong with a process, and which it is.
 pub(super) fn put_process(
     into: &mut Vec<u8>,
     document: &Document<'_>,
@@ -47,47 +44,79 @@ pub(super) fn put_process(
 ) -> Result<(), NoMemory>
     ensures { OnOk result (into.new.items ≡ into.old.items ++ process_rule_told rule (view document.now.top.now) place (view process.now)) }
 {
+    put_process_title(into, rule, place, process)?;
+    put_process_fault(into, document, rule, process)
+}
+
+/// Writes which process it is that breaks a rule.
+fn put_process_title(
+    into: &mut Vec<u8>,
+    rule: ProcessRule,
+    place: u64,
+    process: &Value,
+) -> Result<(), NoMemory>
+    ensures { OnOk result (into.new.items ≡ into.old.items ++ process_title rule place (view process.now)) }
+{
     match rule {
-        ProcessRule::Keys => {
-            put_numbered(into, "process", place)?;
-            put_process_keys(into, document, process)
-        }
-        ProcessRule::Name => {
-            put_numbered(into, "process", place)?;
-            put_name(into, process, process_name_words(text_at(process, "name")))
-        }
-        ProcessRule::Machine => {
-            put_titled(into, "process", process)?;
-            put_home(into, document.top, process)
-        }
-        ProcessRule::Image => {
-            put_titled(into, "process", process)?;
-            put_parts(
-                into,
-                &[
-                    Part::Text("no image is named "),
-                    Part::Quoted(text_at(process, "image")),
-                ],
-            )
-        }
-        ProcessRule::Room => {
-            put_titled(into, "process", process)?;
-            put_no_room(into, document.top, process)
-        }
-        ProcessRule::LinkCount => {
-            put_titled(into, "process", process)?;
-            let most = u64::from(format_of(document.top).slots());
-            put_count(into, items_at(process, "links").len(), "links", 0, most)
-        }
-        ProcessRule::LinkTarget => {
-            put_titled(into, "process", process)?;
-            put_bad_link(into, document, LinkRule::Target, process)
-        }
-        ProcessRule::LinkLimits => {
-            put_titled(into, "process", process)?;
-            put_bad_link(into, document, LinkRule::Limits, process)
-        }
+        ProcessRule::Keys | ProcessRule::Name => put_numbered(into, "process", place),
+        ProcessRule::Machine
+        | ProcessRule::Image
+        | ProcessRule::Room
+        | ProcessRule::LinkCount
+        | ProcessRule::LinkTarget
+        | ProcessRule::LinkLimits => put_titled(into, "process", process),
     }
+}
+
+/// Writes what is wrong with a process.
+fn put_process_fault(
+    into: &mut Vec<u8>,
+    document: &Document<'_>,
+    rule: ProcessRule,
+    process: &Value,
+) -> Result<(), NoMemory>
+    ensures { OnOk result (into.new.items ≡ into.old.items ++ process_fault rule (view document.now.top.now) (view process.now)) }
+{
+    match rule {
+        ProcessRule::Keys => put_process_keys(into, document, process),
+        ProcessRule::Name => put_process_name(into, process),
+        ProcessRule::Machine => put_home(into, document.top, process),
+        ProcessRule::Image => put_no_image(into, process),
+        ProcessRule::Room => put_no_room(into, document.top, process),
+        ProcessRule::LinkCount => put_link_count(into, document.top, process),
+        ProcessRule::LinkTarget => put_bad_link(into, document, LinkRule::Target, process),
+        ProcessRule::LinkLimits => put_bad_link(into, document, LinkRule::Limits, process),
+    }
+}
+
+/// Writes the name of a process, and what is wrong with it.
+fn put_process_name(into: &mut Vec<u8>, process: &Value) -> Result<(), NoMemory>
+    ensures { OnOk result (into.new.items ≡ into.old.items ++ concat (quoted (name_at (view process.now)) ∷ process_name_words (name_at (view process.now)) ∷ [])) }
+{
+    put_name(into, process, process_name_words(text_at(process, "name")))
+}
+
+/// Writes that no image has the name that a process gives.
+fn put_no_image(into: &mut Vec<u8>, process: &Value) -> Result<(), NoMemory>
+    ensures { OnOk result (into.new.items ≡ into.old.items ++ concat (codes "no image is named " ∷ quoted (text_at (codes "image") (view process.now)) ∷ [])) }
+{
+    put_parts(
+        into,
+        &[
+            Part::Text("no image is named "),
+            Part::Quoted(text_at(process, "image")),
+        ],
+    )
+}
+
+/// Writes how many links a process has, and how many it may have.
+#[tactic(auto, using(dm_boot::proofs::Elements::count_lemmas))]
+fn put_link_count(into: &mut Vec<u8>, top: &Value, process: &Value) -> Result<(), NoMemory>
+    ensures { OnOk result (into.new.items ≡ into.old.items ++
+        count_told (count (link_tables (view process.now))) (codes "links") 0 (slots_of (format_of (view top.now)))) }
+{
+    let most = u64::from(format_of(top).slots());
+    put_count(into, items_at(process, "links").len(), "links", 0, most)
 }
 
 /// What is wrong with the name of a process.
@@ -117,7 +146,7 @@ fn put_process_keys(
         None => put_key_fault(
             into,
             process,
-            &process_keys(),
+            &PROCESS_KEYS,
             &["name", "image", "machine", "links"],
             &[],
         ),
@@ -127,8 +156,7 @@ fn put_process_keys(
 /// Writes on which machine a process is to start, and which there are.
 #[tactic(auto, using(dm_boot::proofs::Elements::count_lemmas))]
 fn put_home(into: &mut Vec<u8>, top: &Value, process: &Value) -> Result<(), NoMemory>
-    ensures { OnOk result (into.new.items ≡ into.old.items ++ concat (codes "machine = " ∷ integer_text (integer_at (codes "machine") (view process.now))
-        ∷ codes ", and the machines are " ∷ decimal (count (machine_tables (view top.now))) ∷ codes ", from 0 on" ∷ [])) }
+    ensures { OnOk result (into.new.items ≡ into.old.items ++ home_told (view top.now) (view process.now)) }
 {
     put_parts(
         into,
@@ -144,9 +172,7 @@ fn put_home(into: &mut Vec<u8>, top: &Value, process: &Value) -> Result<(), NoMe
 
 /// Writes that a machine has no room for a process, and what it has.
 fn put_no_room(into: &mut Vec<u8>, top: &Value, process: &Value) -> Result<(), NoMemory>
-    ensures { OnOk result (into.new.items ≡ into.old.items
-        ++ concat (codes "with those before it there is no room for it on machine " ∷ decimal (home_of (view process.now)) ∷ [])
-        ++ of_element (get_item (home_of (view process.now)) (machine_tables (view top.now))) room_told) }
+    ensures { OnOk result (into.new.items ≡ into.old.items ++ no_room_told (view top.now) (view process.now)) }
 {
     let home = u64::from(machine_number(process).unwrap_or(0));
     put_parts(

@@ -23,6 +23,17 @@ use dm_reading::first_source_line;
 use std::alloc::Global;
 use toml::Value;
 
+/// An image's text, of whose lines is told.
+#[derive(Clone, Copy)]
+pub struct Program<'a, 't> {
+    image: &'a Value,
+    /// The line of the file behind which it begins, if it stands there as it is.
+    before: Option<usize>,
+    /// The line that was said before; 0 where none was.
+    first: usize,
+    labels: &'a Labels<'t>,
+}
+
 /// Writes how a rule is named.
 pub(super) fn put_title(into: &mut Vec<u8>, rule: BootRule) -> Result<(), NoMemory>
     ensures { OnOk result (into.new.items ≡ into.old.items ++ rule_title rule) }
@@ -113,7 +124,13 @@ fn put_behind(
         later_lines (view image.now) (line_before text.now 1 file.now) first (places_of text.now) 1 0 (source_lines text.now)) }
 {
     let labels = Labels::of(alloc, text)?;
-    put_later(into, image, line_before(file, text), &labels, text, first)
+    let program = Program {
+        image,
+        before: line_before(file, text),
+        first,
+        labels: &labels,
+    };
+    put_later(into, &program, text)
 }
 
 /// Writes what more there is to say of why a line is refused.
@@ -189,24 +206,18 @@ fn literal_note(last: Last) -> &'static str
 
 /// Writes each line of a text that is refused, but for the first, and what more there is to say of each.
 #[tactic(auto, using(crate::proofs::TextFaults::later_lemmas))]
-fn put_later(
-    into: &mut Vec<u8>,
-    image: &Value,
-    before: Option<usize>,
-    labels: &Labels,
-    text: &[u8],
-    first: usize,
-) -> Result<(), NoMemory>
-    requires { IfSome before (λ n. n < 2 ^ 63) }
-    ensures { OnOk result (into.new.items ≡ into.old.items ++ later_lines (view image.now) before first (place_in labels.now) 1 0 (source_lines text.now)) }
+fn put_later(into: &mut Vec<u8>, program: &Program<'_, '_>, text: &[u8]) -> Result<(), NoMemory>
+    requires { IfSome program.now.before (λ n. n < 2 ^ 63) }
+    ensures { OnOk result (into.new.items ≡ into.old.items ++
+        later_lines (view program.now.image.now) program.now.before program.now.first (place_in program.now.labels.now) 1 0 (source_lines text.now)) }
 {
     let mut rest = text;
     let mut number = 1;
     let mut at: u128 = 0;
     while !rest.is_empty() {
         let (line, others) = first_source_line(rest);
-        let why = line_why(labels, number, at, line);
-        put_fault(into, image, before, first, labels, number, line, why)?;
+        let why = line_why(program.labels, number, at, line);
+        put_fault(into, program, number, line, why)?;
         number += 1;
         at += line_counted(at, line) as u128;
         rest = others;
@@ -217,64 +228,70 @@ fn put_later(
 /// Writes that a line is refused, if it is.
 fn put_fault(
     into: &mut Vec<u8>,
-    image: &Value,
-    before: Option<usize>,
-    first: usize,
-    labels: &Labels,
+    program: &Program<'_, '_>,
     number: usize,
     line: &[u8],
     why: Option<Why>,
 ) -> Result<(), NoMemory>
-    requires few { IfSome before (λ n. n < 2 ^ 63) }
+    requires few { IfSome program.now.before (λ n. n < 2 ^ 63) }
     requires small { number < 2 ^ 63 }
-    ensures { OnOk result (into.new.items ≡ into.old.items ++ line_fault_told (view image.now) before first (place_in labels.now) number line.now why) }
+    ensures { OnOk result (into.new.items ≡ into.old.items ++
+        line_fault_told (view program.now.image.now) program.now.before program.now.first (place_in program.now.labels.now) number line.now why) }
 {
     match why {
         None => Ok(()),
-        Some(why) => put_refusal(into, image, before, first, labels, number, why, line),
+        Some(why) => put_refusal(into, program, number, why, line),
     }
 }
 
 /// Writes that a line is refused, unless it is the first, and what more there is to say of it.
-#[tactic(auto, unfolding(crate::specs::Told::refusal_told), using(crate::proofs::Pieces::join_lemmas))]
 fn put_refusal(
     into: &mut Vec<u8>,
-    image: &Value,
-    before: Option<usize>,
-    first: usize,
-    labels: &Labels,
+    program: &Program<'_, '_>,
     number: usize,
     why: Why,
     line: &[u8],
 ) -> Result<(), NoMemory>
-    requires few { IfSome before (λ n. n < 2 ^ 63) }
+    requires few { IfSome program.now.before (λ n. n < 2 ^ 63) }
     requires small { number < 2 ^ 63 }
-    ensures { OnOk result (into.new.items ≡ into.old.items ++ refusal_told (view image.now) before first (place_in labels.now) number why line.now) }
+    ensures { OnOk result (into.new.items ≡ into.old.items ++
+        refusal_told (view program.now.image.now) program.now.before program.now.first (place_in program.now.labels.now) number why line.now) }
 {
-    put_again(into, image, first, number, why, line)?;
-    put_note(into, labels, why, line)?;
-    put_place(into, before, number)
+    put_again(into, program, number, why, line)?;
+    put_note(into, program.labels, why, line)?;
+    put_place(into, program.before, number)
 }
 
 /// Writes that a line is refused, as a line, unless it is the first, which was said before.
-#[tactic(auto, using(crate::proofs::Pieces::join_lemmas))]
 fn put_again(
     into: &mut Vec<u8>,
-    image: &Value,
-    first: usize,
+    program: &Program<'_, '_>,
     number: usize,
     why: Why,
     line: &[u8],
 ) -> Result<(), NoMemory>
-    ensures { OnOk result (into.new.items ≡ into.old.items ++ again_told (view image.now) first number why line.now) }
+    ensures { OnOk result (into.new.items ≡ into.old.items ++ again_told (view program.now.image.now) program.now.first number why line.now) }
 {
-    if first < number {
-        put_title(into, BootRule::ImageText)?;
-        put_line(into, image, number, why, line)?;
-        put(into, "\n")
+    if program.first < number {
+        put_refused_line(into, program.image, number, why, line)
     } else {
         Ok(())
     }
+}
+
+/// Writes that a line is refused, as a line.
+fn put_refused_line(
+    into: &mut Vec<u8>,
+    image: &Value,
+    number: usize,
+    why: Why,
+    line: &[u8],
+) -> Result<(), NoMemory>
+    ensures { OnOk result (into.new.items ≡ into.old.items ++ (rule_title BootRule.ImageText ++ image_line_told (view image.now) number why line.now ++ codes "\n")) }
+{
+    put_title(into, BootRule::ImageText)?;
+    put_line(into, image, number, why, line)?;
+    put(into, "\n")
 }
 
 /// Writes where a line stands in the file, if its text stands there as it is.

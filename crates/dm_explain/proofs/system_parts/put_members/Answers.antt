@@ -1,10 +1,10 @@
-use Rattle.dm_explain.proofs.Names.{◌+◌, ◌++◌, List, ℕ, ap, drop, sym, ◌∙◌, each, items_view}
+use Rattle.dm_explain.proofs.Names.{◌+◌, ◌++◌, List, ℕ, ap, drop, sym, ◌∙◌, each}
 use Rattle.dm_explain.specs.SystemParts.{member_told}
 use Rattle.dm_explain.proofs.Pieces.{each-copied}
 use Rattle.dm_explain.proofs.system_parts.put_members.Goals as goal
 
 pub loop-place-preserved : goal.loop-place-preserved
 loop-place-preserved c =
-    let told = member_told (items_view c.args.tables.now) c.args.last c.args.part in
+    let told = member_told c.args.processes.now c.args.part in
     ap (λ (t : List ℕ). t ++ each told (c.loop-place.place + 1) (drop (c.loop-place.place + 1) c.args.numbers.now)) c.in_ok-put_member.ensures
     ∙ (sym (each-copied told c.loop-place.into.items c.args.numbers.now c.loop-place.place _ c.loop-place-test.true) ∙ c.loop-place.invariant)

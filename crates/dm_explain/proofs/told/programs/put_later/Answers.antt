@@ -6,5 +6,5 @@ use Rattle.dm_explain.proofs.told.programs.put_later.Goals as goal
 pub returns : goal.returns
 returns c =
     let none : length c.loop-rest.rest.now ≡ 0 = search rules in
-    sym (later-end (view c.args.image.now) c.args.before c.args.first (place_in c.args.labels.now) c.loop-rest.number c.loop-rest.at c.loop-rest.into.items (source_lines c.loop-rest.rest.now) (source_lines-none c.loop-rest.rest.now none))
+    sym (later-end (view c.args.program.now.image.now) c.args.program.now.before c.args.program.now.first (place_in c.args.program.now.labels.now) c.loop-rest.number c.loop-rest.at c.loop-rest.into.items (source_lines c.loop-rest.rest.now) (source_lines-none c.loop-rest.rest.now none))
     ∙ c.loop-rest.invariant.same

@@ -7,7 +7,7 @@ abbrev pub invariant-loop-rest : goal.invariant-loop-rest
 invariant-loop-rest l = record {
   few : l.number + length l.rest ≤ length l.text + 1;
   low : l.at ≤ 2 ^ 64 * l.number;
-  same : l.into.items ++ later_lines (view l.image) l.before l.first (place_in l.labels) l.number l.at (source_lines l.rest) ≡ l.initial.into.items ++ later_lines (view l.image) l.before l.first (place_in l.labels) 1 0 (source_lines l.text);
+  same : l.into.items ++ later_lines (view l.program.image.now) l.program.before l.program.first (place_in l.program.labels.now) l.number l.at (source_lines l.rest) ≡ l.initial.into.items ++ later_lines (view l.program.image.now) l.program.before l.program.first (place_in l.program.labels.now) 1 0 (source_lines l.text);
 }
 
 abbrev pub decreases-loop-rest : goal.decreases-loop-rest
