@@ -222,9 +222,9 @@ carried t u (Some (Explain boot schedule)) a world s c h = h
 carried t u (Some (Judge boot trace)) a world s c h = judge_met t.trace u.trace boot trace a world s c.traces h
 carried t u (Some (Count boot schedule)) a world s c h =
     run_met (CountSays t.run) (CountSays u.run) boot schedule a world s (λ b ds before after valid each says. counted_said t.run u.run false report.OfRun b ds before after world s (c.runs b ds valid each) says) h
-carried t u (Some (Look boot schedule groups)) a world s c h = record {
-  as_run = run_met (LookSays t.run t.holds groups) (LookSays u.run u.holds groups) boot schedule a world s
-      (λ b ds before after valid each says. look_said t.run u.run t.holds u.holds groups b ds before after world s (c.runs b ds valid each) (c.looks b ds valid each) says) h.as_run;
+carried t u (Some (Look boot schedule groups names)) a world s c h = record {
+  as_run = run_met (LookSays t.run t.holds groups names) (LookSays u.run u.holds groups names) boot schedule a world s
+      (λ b ds before after valid each says. look_said t.run u.run t.holds u.holds groups names b ds before after world s (c.runs b ds valid each) (c.looks b ds valid each) says) h.as_run;
   no_world = h.no_world;
 }
 carried t u (Some (Explore boot line e)) a world s c h = explore_met t.answer u.answer boot line e a world s (λ b valid within x named means. c.answers b line e valid within x named means) h

@@ -62,8 +62,8 @@ lacks_meets t (Some (Judge boot trace)) a world lack quiet fits h nothing =
     (unread (Both boot input.Trace trace) a.shelf (NoMemory lack) h.unread (asks_nothing (Both boot input.Trace trace) a.shelf h.unread nothing) (no_read lack)) h.unwritten h.no_world
 lacks_meets t (Some (Count boot schedule)) a world lack quiet fits h nothing =
     running.never_meets (CountSays t.run) boot schedule a world (NoMemory lack) tt (unread (Both boot input.Schedule schedule) a.shelf (NoMemory lack) h.unread (asks_nothing (Both boot input.Schedule schedule) a.shelf h.unread nothing) (no_read lack)) h.unwritten h.no_world
-lacks_meets t (Some (Look boot schedule groups)) a world lack quiet fits h nothing = record {
-  as_run = running.never_meets (LookSays t.run t.holds groups) boot schedule a world (NoMemory lack) tt (unread (Both boot input.Schedule schedule) a.shelf (NoMemory lack) h.unread (asks_nothing (Both boot input.Schedule schedule) a.shelf h.unread nothing) (no_read lack)) h.unwritten h.no_world;
+lacks_meets t (Some (Look boot schedule groups names)) a world lack quiet fits h nothing = record {
+  as_run = running.never_meets (LookSays t.run t.holds groups names) boot schedule a world (NoMemory lack) tt (unread (Both boot input.Schedule schedule) a.shelf (NoMemory lack) h.unread (asks_nothing (Both boot input.Schedule schedule) a.shelf h.unread nothing) (no_read lack)) h.unwritten h.no_world;
   no_world = h.no_world;
 }
 lacks_meets t (Some (Explore boot line e)) a world lack quiet fits h nothing =
@@ -129,7 +129,7 @@ command_met t (Some (Chart boot schedule first last)) a world s h = h.as_run.met
 command_met t (Some (Explain boot schedule)) a world s h = h.met
 command_met t (Some (Judge boot trace)) a world s h = h.met
 command_met t (Some (Count boot schedule)) a world s h = h.met
-command_met t (Some (Look boot schedule groups)) a world s h = h.as_run.met
+command_met t (Some (Look boot schedule groups names)) a world s h = h.as_run.met
 command_met t (Some (Explore boot line e)) a world s h = h.met
 command_met t (Some (Drill d)) a world s h = record { shelf = h.shelf; sink = h.meets.sink }
 command_met t (Some (OwnDrill boot d)) a world s h = h.met

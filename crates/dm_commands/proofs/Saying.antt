@@ -13,7 +13,6 @@ use Rattle.dm_explain.specs.declared.explain.BootTold.TheVariants as boot_told
 use Rattle.dm_explain.specs.declared.explain.ScheduleTold.{ScheduleTold}
 use Rattle.dm_explain.specs.declared.explain.ScheduleTold.TheVariants as schedule_told
 use Rattle.dm_commands.proofs.Outcomes.{Files}
-use Rattle.dm_commands.specs.Inputs.{SaysFile}
 use Rattle.dm_commands.specs.Firsts.{FirstOfBoot, FirstOfFiles, FirstOfSchedule, SaysFirst, boot_text, schedule_text}
 
 -- the rule and the place of a refusal
@@ -51,30 +50,26 @@ boot_first files boot schedule old new NotFound said none h = h
 boot_first files boot schedule old new Undecided said none h = h
 
 -- it says a system, and the schedule is at fault
-schedule_at : (files : Option Files) (boot schedule file : List ℕ) (b : Boot) (old new : ℕ) (s : Status) (said : List ℕ) → SaysFile files boot file b → NoDirectives files schedule (length b.machines) old new s → FirstOfSchedule files schedule file b s said → FirstOfFiles files boot schedule s said
-schedule_at files boot schedule file b old new Done said says none h = h
-schedule_at files boot schedule file b old new Usage said says none h = h
-schedule_at files boot schedule file b old new (ReadFault i) said says none h = h
-schedule_at files boot schedule file b old new (NoMemory lack) said says none h = h
-schedule_at files boot schedule file b old new WriteFault said says none h = h
-schedule_at files boot schedule file b old new (BootRefused number place) said says none h = absurd none
-schedule_at files boot schedule file b old new (ScheduleRefused line why) said says none h = record { file = file; system = b; says = says; told = h }
-schedule_at files boot schedule file b old new (TooLong i) said says none h = h
-schedule_at files boot schedule file b old new (Worn from to) said says none h = h
-schedule_at files boot schedule file b old new (TraceRefused line why) said says none h = h
-schedule_at files boot schedule file b old new (LabelsRefused line) said says none h = h
-schedule_at files boot schedule file b old new NotFound said says none h = h
-schedule_at files boot schedule file b old new Undecided said says none h = h
+schedule_at : (files : Option Files) (boot schedule : List ℕ) (b : Boot) (old new : ℕ) (s : Status) (said : List ℕ) → SaysBoot files boot b → NoDirectives files schedule (length b.machines) old new s → FirstOfSchedule files schedule b s said → FirstOfFiles files boot schedule s said
+schedule_at files boot schedule b old new Done said says none h = h
+schedule_at files boot schedule b old new Usage said says none h = h
+schedule_at files boot schedule b old new (ReadFault i) said says none h = h
+schedule_at files boot schedule b old new (NoMemory lack) said says none h = h
+schedule_at files boot schedule b old new WriteFault said says none h = h
+schedule_at files boot schedule b old new (BootRefused number place) said says none h = absurd none
+schedule_at files boot schedule b old new (ScheduleRefused line why) said says none h = record { system = b; says = says; told = h }
+schedule_at files boot schedule b old new (TooLong i) said says none h = h
+schedule_at files boot schedule b old new (Worn from to) said says none h = h
+schedule_at files boot schedule b old new (TraceRefused line why) said says none h = h
+schedule_at files boot schedule b old new (LabelsRefused line) said says none h = h
+schedule_at files boot schedule b old new NotFound said says none h = h
+schedule_at files boot schedule b old new Undecided said says none h = h
 
-pub schedule_first : (files between : Option Files) (boot schedule file : List ℕ) (b : Boot) (old new : ℕ) (s : Status) (said : List ℕ) → SaysFile files boot file b → between ≡ files
-    → NoDirectives between schedule (length b.machines) old new s → FirstOfSchedule between schedule file b s said → FirstOfFiles files boot schedule s said
-schedule_first files between boot schedule file b old new s said says same none h =
-    schedule_at files boot schedule file b old new s said says
-    (subst (λ (f : Option Files). NoDirectives f schedule (length b.machines) old new s) same none) (subst (λ (f : Option Files). FirstOfSchedule f schedule file b s said) same h)
-
--- the file that says a system, whichever bytes it has
-pub some_file : (files : Option Files) (boot file : List ℕ) (b : Boot) → SaysFile files boot file b → SaysBoot files boot b
-some_file files boot file b h = record { bytes = file; file = h.file; says = h.says }
+pub schedule_first : (files between : Option Files) (boot schedule : List ℕ) (b : Boot) (old new : ℕ) (s : Status) (said : List ℕ) → SaysBoot files boot b → between ≡ files
+    → NoDirectives between schedule (length b.machines) old new s → FirstOfSchedule between schedule b s said → FirstOfFiles files boot schedule s said
+schedule_first files between boot schedule b old new s said says same none h =
+    schedule_at files boot schedule b old new s said says
+    (subst (λ (f : Option Files). NoDirectives f schedule (length b.machines) old new s) same none) (subst (λ (f : Option Files). FirstOfSchedule f schedule b s said) same h)
 
 -- so there is no run
 pub schedule_none : (files between : Option Files) (boot schedule : List ℕ) (b : Boot) (old mid new : ℕ) (s : Status) → SaysBoot files boot b → between ≡ files → mid ≡ old
@@ -140,7 +135,7 @@ silent_first Holds (Some (Chart boot schedule first last)) files s said no_boot 
 silent_first Holds (Some (Explain boot schedule)) files s said no_boot no_schedule h e = e
 silent_first Holds (Some (Judge boot trace)) files s said no_boot no_schedule h e = e
 silent_first Holds (Some (Count boot schedule)) files s said no_boot no_schedule h e = silent_files Holds files boot schedule s said no_boot no_schedule h e
-silent_first Holds (Some (Look boot schedule groups)) files s said no_boot no_schedule h e = silent_files Holds files boot schedule s said no_boot no_schedule h e
+silent_first Holds (Some (Look boot schedule groups names)) files s said no_boot no_schedule h e = silent_files Holds files boot schedule s said no_boot no_schedule h e
 silent_first Holds (Some (Explore boot line x)) files s said no_boot no_schedule h e = silent_boot Holds files boot s said no_boot h e
 silent_first Holds (Some (Drill d)) files s said no_boot no_schedule h e = e
 silent_first Holds (Some (OwnDrill boot d)) files s said no_boot no_schedule h e = silent_boot Holds files boot s said no_boot h e

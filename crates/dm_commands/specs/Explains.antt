@@ -23,12 +23,7 @@ use Rattle.dm_commands.specs.Meets.{MeetsOutside}
 use Rattle.dm_commands.specs.Outside.{Around, Never, NeverFails, Outside, outside}
 use Rattle.dm_ending.specs.Status.{IsWant}
 
--- the boot file of this name has these bytes, and what is said of them
-pub record TellsFile (files : Option (List ℕ → Option (List ℕ))) (name bytes : List ℕ) (told : BootTold) : Type 0 where
-  pub file : HasFile files name most_boot bytes
-  pub explains : ExplainsBoot bytes told
-
--- the same, whichever bytes these are
+-- the bytes of the boot file of this name, and what is said of them
 pub record TellsRead (files : Option (List ℕ → Option (List ℕ))) (name : List ℕ) (told : BootTold) : Type 0 where
   pub bytes : List ℕ
   pub file : HasFile files name most_boot bytes
@@ -48,43 +43,37 @@ pub record ExplainsSystem (files : Option (List ℕ → Option (List ℕ))) (nam
   pub file : HasFile files name most_boot bytes
   pub told : TellsBoot bytes b text
 
--- its bytes are these, they give this system, and that is said
-pub record ExplainsFile (files : Option (List ℕ → Option (List ℕ))) (name bytes : List ℕ) (b : Boot) (text : List ℕ) : Type 0 where
-  pub file : HasFile files name most_boot bytes
-  pub told : TellsBoot bytes b text
-
 -- what is said of the directives of a schedule, behind what was said first
 pub record TellsDirectives (bytes : List ℕ) (machines : ℕ) (first text : List ℕ) : Type 0 where
   pub directives : List Directive
   pub says : directives_of bytes machines ≡ Accepted directives
   pub text_is : text ≡ first ++ directives_told directives
 
--- and of a line that is refused, where the boot file of the system has the bytes `file`
-pub record TellsLine (file : List ℕ) (b : Boot) (bytes : List ℕ) (line why : ℕ) (first text : List ℕ) : Type 0 where
+-- and of a line that is refused
+pub record TellsLine (b : Boot) (bytes : List ℕ) (line why : ℕ) (first text : List ℕ) : Type 0 where
   pub fault : LineFault
   pub refused : directives_of bytes (length b.machines) ≡ Refused line fault
   pub why_is : why ≡ number_of_fault fault
-  pub text_is : text ≡ first ++ (line_told bytes (length b.machines) line fault ++ name_told file b bytes line fault)
+  pub text_is : text ≡ first ++ (line_told bytes (length b.machines) line fault ++ name_told b bytes line fault)
 
 -- how a run ends on a schedule before it runs, and what is said of it
-abbrev pub TellsLines : List ℕ → Boot → List ℕ → List ℕ → Status → List ℕ → Type 0
-TellsLines file b bytes first Done text = TellsDirectives bytes (length b.machines) first text
-TellsLines file b bytes first (ScheduleRefused line why) text = TellsLine file b bytes line why first text
-TellsLines file b bytes first _ text = ⊥
+abbrev pub TellsLines : Boot → List ℕ → List ℕ → Status → List ℕ → Type 0
+TellsLines b bytes first Done text = TellsDirectives bytes (length b.machines) first text
+TellsLines b bytes first (ScheduleRefused line why) text = TellsLine b bytes line why first text
+TellsLines b bytes first _ text = ⊥
 
 -- the same of the schedule of this name
-pub record TellsSchedule (files : Option (List ℕ → Option (List ℕ))) (name file : List ℕ) (b : Boot) (first : List ℕ) (due : Status) (text : List ℕ) : Type 0 where
+pub record TellsSchedule (files : Option (List ℕ → Option (List ℕ))) (name : List ℕ) (b : Boot) (first : List ℕ) (due : Status) (text : List ℕ) : Type 0 where
   pub bytes : List ℕ
-  pub is : HasFile files name most_schedule bytes
-  pub tells : TellsLines file b bytes first due text
+  pub file : HasFile files name most_schedule bytes
+  pub tells : TellsLines b bytes first due text
 
 -- a system is said, and then a schedule for its machines
 pub record TellsBoth (files : Option (List ℕ → Option (List ℕ))) (boot schedule : List ℕ) (due : Status) (text : List ℕ) : Type 0 where
-  pub file : List ℕ
   pub system : Boot
   pub first : List ℕ
-  pub boot_told : ExplainsFile files boot file system first
-  pub schedule_told : TellsSchedule files schedule file system first due text
+  pub boot_told : ExplainsSystem files boot system first
+  pub schedule_told : TellsSchedule files schedule system first due text
 
 -- a system is said, alone
 pub record TellsAlone (files : Option (List ℕ → Option (List ℕ))) (boot text : List ℕ) : Type 0 where

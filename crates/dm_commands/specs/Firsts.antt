@@ -18,7 +18,7 @@ use Rattle.dm_ending.specs.declared.status.Status.{Status}
 use Rattle.dm_ending.specs.declared.status.Status.TheVariants.{Done, Usage, ReadFault, NoMemory, WriteFault, BootRefused, ScheduleRefused, TooLong, Worn, TraceRefused, LabelsRefused, NotFound, Undecided}
 use Rattle.dm_words.specs.Request.{Request, Chart, Check, Count, Drill, Explain, Explore, Judge, OwnDrill, Run, Look, CheckLabels}
 use Rattle.dm_commands.specs.Explains.{ExplainsBroken}
-use Rattle.dm_commands.specs.Inputs.{HasFile, SaysFile, most_schedule}
+use Rattle.dm_commands.specs.Inputs.{HasFile, SaysBoot, most_schedule}
 
 -- the first line of a text, with its line feed
 abbrev pub up_to : List ℕ → Option ℕ → List ℕ
@@ -47,22 +47,21 @@ pub record FirstTold (Says : List ℕ → Type 0) (said : List ℕ) : Type 0 whe
 abbrev pub FirstOfBroken : Option (List ℕ → Option (List ℕ)) → List ℕ → ℕ → ℕ → List ℕ → Type 0
 FirstOfBroken files name number place said = FirstTold (λ text. ExplainsBroken files name number place text) said
 
--- the schedule of this name is refused at this line, for the system of a boot file of these bytes: the first line that is said of
--- that, and whose name stands where a process's number must
-pub record FirstOfLine (files : Option (List ℕ → Option (List ℕ))) (name file : List ℕ) (b : Boot) (line why : ℕ) (said : List ℕ) : Type 0 where
+-- the schedule of this name is refused at this line, for this system: the first line that is said of that, and whose name stands where
+-- a process's number must
+pub record FirstOfLine (files : Option (List ℕ → Option (List ℕ))) (name : List ℕ) (b : Boot) (line why : ℕ) (said : List ℕ) : Type 0 where
   pub bytes : List ℕ
   pub is : HasFile files name most_schedule bytes
   pub fault : LineFault
   pub refused : directives_of bytes (length b.machines) ≡ Refused line fault
   pub why_is : why ≡ number_of_fault fault
-  pub first : said ≡ first_line (line_told bytes (length b.machines) line fault) ++ name_told file b bytes line fault
+  pub first : said ≡ first_line (line_told bytes (length b.machines) line fault) ++ name_told b bytes line fault
 
 -- the same of the names of both files
 pub record FirstOfSecond (files : Option (List ℕ → Option (List ℕ))) (boot schedule : List ℕ) (line why : ℕ) (said : List ℕ) : Type 0 where
-  pub file : List ℕ
   pub system : Boot
-  pub says : SaysFile files boot file system
-  pub told : FirstOfLine files schedule file system line why said
+  pub says : SaysBoot files boot system
+  pub told : FirstOfLine files schedule system line why said
 
 -- what is said of a boot file alone, of a schedule for a system, and of both: nothing where none is refused
 abbrev pub FirstOfBoot : Option (List ℕ → Option (List ℕ)) → List ℕ → Status → List ℕ → Type 0
@@ -80,20 +79,20 @@ FirstOfBoot files name (LabelsRefused line) said = said ≡ []
 FirstOfBoot files name NotFound said = said ≡ []
 FirstOfBoot files name Undecided said = said ≡ []
 
-abbrev pub FirstOfSchedule : Option (List ℕ → Option (List ℕ)) → List ℕ → List ℕ → Boot → Status → List ℕ → Type 0
-FirstOfSchedule files name file b Done said = said ≡ []
-FirstOfSchedule files name file b Usage said = said ≡ []
-FirstOfSchedule files name file b (ReadFault i) said = said ≡ []
-FirstOfSchedule files name file b (NoMemory lack) said = said ≡ []
-FirstOfSchedule files name file b WriteFault said = said ≡ []
-FirstOfSchedule files name file b (BootRefused number place) said = said ≡ []
-FirstOfSchedule files name file b (ScheduleRefused line why) said = FirstOfLine files name file b line why said
-FirstOfSchedule files name file b (TooLong i) said = said ≡ []
-FirstOfSchedule files name file b (Worn from to) said = said ≡ []
-FirstOfSchedule files name file b (TraceRefused line why) said = said ≡ []
-FirstOfSchedule files name file b (LabelsRefused line) said = said ≡ []
-FirstOfSchedule files name file b NotFound said = said ≡ []
-FirstOfSchedule files name file b Undecided said = said ≡ []
+abbrev pub FirstOfSchedule : Option (List ℕ → Option (List ℕ)) → List ℕ → Boot → Status → List ℕ → Type 0
+FirstOfSchedule files name b Done said = said ≡ []
+FirstOfSchedule files name b Usage said = said ≡ []
+FirstOfSchedule files name b (ReadFault i) said = said ≡ []
+FirstOfSchedule files name b (NoMemory lack) said = said ≡ []
+FirstOfSchedule files name b WriteFault said = said ≡ []
+FirstOfSchedule files name b (BootRefused number place) said = said ≡ []
+FirstOfSchedule files name b (ScheduleRefused line why) said = FirstOfLine files name b line why said
+FirstOfSchedule files name b (TooLong i) said = said ≡ []
+FirstOfSchedule files name b (Worn from to) said = said ≡ []
+FirstOfSchedule files name b (TraceRefused line why) said = said ≡ []
+FirstOfSchedule files name b (LabelsRefused line) said = said ≡ []
+FirstOfSchedule files name b NotFound said = said ≡ []
+FirstOfSchedule files name b Undecided said = said ≡ []
 
 abbrev pub FirstOfFiles : Option (List ℕ → Option (List ℕ)) → List ℕ → List ℕ → Status → List ℕ → Type 0
 FirstOfFiles files boot schedule Done said = said ≡ []
@@ -120,7 +119,7 @@ SaysFirst (Some (Chart boot schedule first last)) files s said = FirstOfFiles fi
 SaysFirst (Some (Explain boot schedule)) files s said = said ≡ []
 SaysFirst (Some (Judge boot trace)) files s said = said ≡ []
 SaysFirst (Some (Count boot schedule)) files s said = FirstOfFiles files boot schedule s said
-SaysFirst (Some (Look boot schedule groups)) files s said = FirstOfFiles files boot schedule s said
+SaysFirst (Some (Look boot schedule groups names)) files s said = FirstOfFiles files boot schedule s said
 SaysFirst (Some (Explore boot line exploration)) files s said = FirstOfBoot files boot s said
 SaysFirst (Some (Drill drill)) files s said = said ≡ []
 SaysFirst (Some (OwnDrill boot drill)) files s said = FirstOfBoot files boot s said

@@ -33,11 +33,6 @@ pub record SaysBoot (files : Option (List ℕ → Option (List ℕ))) (name : Li
   pub file : HasFile files name most_boot bytes
   pub says : boot_of bytes ≡ Ok b
 
--- it has these bytes, which say this system
-pub record SaysFile (files : Option (List ℕ → Option (List ℕ))) (name bytes : List ℕ) (b : Boot) : Type 0 where
-  pub file : HasFile files name most_boot bytes
-  pub says : boot_of bytes ≡ Ok b
-
 -- the boot file of this name breaks the rule of this number, at this place
 pub record RefusesBoot (files : Option (List ℕ → Option (List ℕ))) (name : List ℕ) (number place : ℕ) : Type 0 where
   pub bytes : List ℕ

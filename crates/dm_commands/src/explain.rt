@@ -2,7 +2,7 @@
 ghost use Rattle.std.specs.Prelude.{◌≡◌, IfErr, IfOk, None, length, option_map};
 ghost use Rattle.dm_ending.specs.declared.status.Input.TheVariants as input_;
 ghost use Rattle.dm_commands.specs.Asked.{Alone, perhaps_both};
-ghost use Rattle.dm_commands.specs.Explains.{ExplainMeets, NoInputs, TellsFile, TellsFiles, TellsLines, TellsRead, TellsSchedule, Wrote};
+ghost use Rattle.dm_commands.specs.Explains.{ExplainMeets, NoInputs, TellsFiles, TellsLines, TellsRead, TellsSchedule, Wrote};
 ghost use Rattle.dm_commands.specs.Inputs.{NoBoot, NoDirectives};
 ghost use Rattle.dm_commands.specs.Judges.{IsUntold};
 ghost use Rattle.dm_commands.specs.Meets.{MeetsShelf, MeetsSink, status_so_far};
@@ -71,7 +71,7 @@ fn tell_files<F: Shelf>(
     ensures shelf { MeetsShelf (perhaps_both boot.now (option_map (λ s. s.now) schedule.entry))
         (shelf_around F.asked F.told F.faults F.last_failed shelf.old shelf.new) (status_so_far result) }
 {
-    let FileTold { file, told } = match tell_file(alloc, boot, shelf) {
+    let told = match tell_boot(alloc, boot, shelf) {
         Ok(told) => told,
         Err(status) => return Err(status),
     };
@@ -84,20 +84,13 @@ fn tell_files<F: Shelf>(
             text,
         }),
         BootTold::System { boot: system, text } => match schedule {
-            Some(name) => tell_schedule(alloc, name, file.as_slice(), &system, text, shelf),
+            Some(name) => tell_schedule(alloc, name, &system, text, shelf),
             None => Ok(Told {
                 due: Status::Done,
                 text,
             }),
         },
     }
-}
-
-/// The bytes of a boot file, and what is said of them.
-#[derive(Drop)]
-struct FileTold {
-    file: Vec<u8>,
-    told: BootTold,
 }
 
 /// What is said of the boot file of this name.
@@ -113,24 +106,9 @@ pub(crate) fn tell_boot<F: Shelf>(
     ensures shelf { MeetsShelf (Alone input_.Boot name.now)
         (shelf_around F.asked F.told F.faults F.last_failed shelf.old shelf.new) (status_so_far result) }
 {
-    match tell_file(alloc, name, shelf) {
-        Ok(told) => Ok(told.told),
-        Err(status) => Err(status),
-    }
-}
-
-/// The same with the bytes of the boot file.
-fn tell_file<F: Shelf>(alloc: Global, name: &str, shelf: &mut F) -> Result<FileTold, Status>
-    ensures tells { IfOk result (λ t. TellsFile (F.told shelf.old) name.now t.file.items t.told) }
-    ensures valid { IfOk result (λ t. IsToldValid t.told) }
-    ensures none { IfErr result (λ s. NoBoot (F.told shelf.old) name.now (F.faults shelf.old) (F.faults shelf.new) s) }
-    ensures untold { IfErr result IsUntold }
-    ensures shelf { MeetsShelf (Alone input_.Boot name.now)
-        (shelf_around F.asked F.told F.faults F.last_failed shelf.old shelf.new) (status_so_far result) }
-{
     match read_file(alloc, shelf, name, MOST_BOOT) {
-        Ok(file) => match explain_boot(alloc, file.as_slice()) {
-            Ok(told) => Ok(FileTold { file, told }),
+        Ok(bytes) => match explain_boot(alloc, bytes.as_slice()) {
+            Ok(told) => Ok(told),
             Err(no) => Err(Status::NoMemory(no)),
         },
         Err(ReadError::Fault) => Err(Status::ReadFault(Input::Boot)),
@@ -139,23 +117,22 @@ fn tell_file<F: Shelf>(alloc: Global, name: &str, shelf: &mut F) -> Result<FileT
     }
 }
 
-/// What is said of the schedule of this name, for the system of a boot file of these bytes, behind what is said of that.
+/// What is said of the schedule of this name, for this system, behind what is said of that.
 fn tell_schedule<F: Shelf>(
     alloc: Global,
     name: &str,
-    file: &[u8],
     system: &Boot,
     first: Vec<u8>,
     shelf: &mut F,
 ) -> Result<Told, Status>
     requires { IsValid system.now }
-    ensures tells { IfOk result (λ t. TellsSchedule (F.told shelf.old) name.now file.now system.now first.items t.due t.text.items) }
+    ensures tells { IfOk result (λ t. TellsSchedule (F.told shelf.old) name.now system.now first.items t.due t.text.items) }
     ensures none { IfErr result (λ s. NoDirectives (F.told shelf.old) name.now (length system.now.machines) (F.faults shelf.old) (F.faults shelf.new) s) }
     ensures shelf { MeetsShelf (Alone input_.Schedule name.now)
         (shelf_around F.asked F.told F.faults F.last_failed shelf.old shelf.new) (status_so_far result) }
 {
     match read_file(alloc, shelf, name, MOST_SCHEDULE) {
-        Ok(bytes) => match tell_lines(alloc, file, system, bytes.as_slice(), first) {
+        Ok(bytes) => match tell_lines(alloc, system, bytes.as_slice(), first) {
             Ok(told) => Ok(told),
             Err(no) => Err(Status::NoMemory(no)),
         },
@@ -165,16 +142,10 @@ fn tell_schedule<F: Shelf>(
     }
 }
 
-/// What is said of a schedule, for the system of a boot file of these bytes, behind what is said of that.
-fn tell_lines(
-    alloc: Global,
-    file: &[u8],
-    system: &Boot,
-    bytes: &[u8],
-    first: Vec<u8>,
-) -> Result<Told, NoMemory>
+/// What is said of a schedule, for this system, behind what is said of that.
+fn tell_lines(alloc: Global, system: &Boot, bytes: &[u8], first: Vec<u8>) -> Result<Told, NoMemory>
     requires { IsValid system.now }
-    ensures { IfOk result (λ t. TellsLines file.now system.now bytes.now first.items t.due t.text.items) }
+    ensures { IfOk result (λ t. TellsLines system.now bytes.now first.items t.due t.text.items) }
 {
     let mut text = first;
     match explain_schedule(alloc, bytes, system.machines.len() as u8)? {
@@ -191,7 +162,7 @@ fn tell_lines(
             text: more,
         } => {
             let mut said = more;
-            let name = explain_name(alloc, file, system, bytes, line, fault)?;
+            let name = explain_name(alloc, system, bytes, line, fault)?;
             extend_from_slice(&mut said, name.as_slice())?;
             extend_from_slice(&mut text, said.as_slice())?;
             Ok(Told {

@@ -31,11 +31,10 @@ pub(crate) fn first_of_boot(
     Ok(first_line(boot_text(told)))
 }
 
-/// The first line of what is said of a schedule that is refused at this line, for the system of a boot file of these bytes, and whose
-/// name stands where a process's number must.
+/// The first line of what is said of a schedule that is refused at this line, for this system, and whose name stands where a process's
+/// number must.
 pub(crate) fn first_of_schedule(
     alloc: Global,
-    file: &[u8],
     boot: &Boot,
     bytes: &[u8],
     line: u64,
@@ -44,11 +43,11 @@ pub(crate) fn first_of_schedule(
     requires valid { IsValid boot.now }
     requires refused { directives_of bytes.now (length boot.now.machines) ≡ Refused line fault }
     ensures { IfOk result (λ said. said.items ≡
-        first_line (line_told bytes.now (length boot.now.machines) line fault) ++ name_told file.now boot.now bytes.now line fault) }
+        first_line (line_told bytes.now (length boot.now.machines) line fault) ++ name_told boot.now bytes.now line fault) }
 {
     let machines = boot.machines.len() as u8;
     let mut said = first_of_line(alloc, bytes, machines, line, fault)?;
-    let name = explain_name(alloc, file, boot, bytes, line, fault)?;
+    let name = explain_name(alloc, boot, bytes, line, fault)?;
     extend_from_slice(&mut said, name.as_slice())?;
     Ok(said)
 }

@@ -5,7 +5,7 @@ ghost use Rattle.dm_onekernel.specs.Boot.{IsValid};
 ghost use Rattle.dm_commands.specs.Asked.{Alone, Both};
 ghost use Rattle.dm_commands.specs.Checks.{HasTrace, NoBytes, NoTrace, most_trace};
 ghost use Rattle.dm_commands.specs.Firsts.{FirstOfBoot, FirstOfFiles, FirstOfSchedule};
-ghost use Rattle.dm_commands.specs.Inputs.{AcceptsFiles, HasFile, NoBoot, NoDirectives, NoFiles, SaysBoot, SaysDirectives, SaysFile};
+ghost use Rattle.dm_commands.specs.Inputs.{AcceptsFiles, HasFile, NoBoot, NoDirectives, NoFiles, SaysBoot, SaysDirectives};
 ghost use Rattle.dm_commands.specs.Meets.{MeetsShelf, status_so_far};
 ghost use Rattle.dm_commands.specs.Outside.{shelf_around};
 ghost use Rattle.dm_ending.specs.declared.status.Input.TheVariants as input_;
@@ -49,19 +49,9 @@ pub fn read_files<F: Shelf>(
         (shelf_around F.asked F.told F.faults F.last_failed shelf.old shelf.new) (status_so_far result) }
     ensures said { FirstOfFiles (F.told shelf.old) boot.now schedule.now (status_so_far result) said.new.items }
 {
-    let system = read_file_system(alloc, boot, shelf, said)?;
-    let directives = read_directives(alloc, schedule, &system, shelf, said)?;
-    Ok(Inputs {
-        boot: system.boot,
-        directives,
-    })
-}
-
-/// A system, and the bytes of its boot file, which has the names of its processes.
-#[derive(Drop)]
-struct FileSystem {
-    boot: Boot,
-    file: Vec<u8>,
+    let boot = read_system(alloc, boot, shelf, said)?;
+    let directives = read_directives(alloc, schedule, &boot, shelf, said)?;
+    Ok(Inputs { boot, directives })
 }
 
 /// What there is to check: a system, and the bytes of a trace.
@@ -127,30 +117,10 @@ pub(crate) fn read_system<F: Shelf>(
         (shelf_around F.asked F.told F.faults F.last_failed shelf.old shelf.new) (status_so_far result) }
     ensures said { FirstOfBoot (F.told shelf.old) name.now (status_so_far result) said.new.items }
 {
-    match read_file_system(alloc, name, shelf, said) {
-        Ok(system) => Ok(system.boot),
-        Err(status) => Err(status),
-    }
-}
-
-/// The same with the bytes of the boot file.
-fn read_file_system<F: Shelf>(
-    alloc: Global,
-    name: &str,
-    shelf: &mut F,
-    said: &mut Vec<u8>,
-) -> Result<FileSystem, Status>
-    ensures says { IfOk result (λ s. SaysFile (F.told shelf.old) name.now s.file.items s.boot) }
-    ensures valid { IfOk result (λ s. IsValid s.boot) }
-    ensures none { IfErr result (λ s. NoBoot (F.told shelf.old) name.now (F.faults shelf.old) (F.faults shelf.new) s) }
-    ensures shelf { MeetsShelf (Alone input_.Boot name.now)
-        (shelf_around F.asked F.told F.faults F.last_failed shelf.old shelf.new) (status_so_far result) }
-    ensures said { FirstOfBoot (F.told shelf.old) name.now (status_so_far result) said.new.items }
-{
     *said = Vec::new(alloc);
     match read_file(alloc, shelf, name, MOST_BOOT) {
         Ok(bytes) => match read_boot(alloc, bytes.as_slice()) {
-            Ok(boot) => Ok(FileSystem { boot, file: bytes }),
+            Ok(boot) => Ok(boot),
             Err(BootError::Refused { rule, place }) => {
                 match first_of_boot(alloc, bytes.as_slice(), rule, place) {
                     Ok(first) => {
@@ -176,33 +146,26 @@ fn read_file_system<F: Shelf>(
 fn read_directives<F: Shelf>(
     alloc: Global,
     name: &str,
-    system: &FileSystem,
+    boot: &Boot,
     shelf: &mut F,
     said: &mut Vec<u8>,
 ) -> Result<Vec<Directive>, Status>
-    requires { IsValid system.now.boot }
-    ensures says { IfOk result (λ ds. SaysDirectives (F.told shelf.old) name.now (length system.now.boot.machines) ds.items) }
-    ensures each { IfOk result (λ ds. All (IsFor (length system.now.boot.machines)) ds.items) }
+    requires { IsValid boot.now }
+    ensures says { IfOk result (λ ds. SaysDirectives (F.told shelf.old) name.now (length boot.now.machines) ds.items) }
+    ensures each { IfOk result (λ ds. All (IsFor (length boot.now.machines)) ds.items) }
     ensures few { IfOk result (λ ds. length ds.items ≤ MOST_SCHEDULE) }
-    ensures none { IfErr result (λ s. NoDirectives (F.told shelf.old) name.now (length system.now.boot.machines) (F.faults shelf.old) (F.faults shelf.new) s) }
+    ensures none { IfErr result (λ s. NoDirectives (F.told shelf.old) name.now (length boot.now.machines) (F.faults shelf.old) (F.faults shelf.new) s) }
     ensures shelf { MeetsShelf (Alone input_.Schedule name.now)
         (shelf_around F.asked F.told F.faults F.last_failed shelf.old shelf.new) (status_so_far result) }
-    ensures said { FirstOfSchedule (F.told shelf.old) name.now system.now.file.items system.now.boot (status_so_far result) said.new.items }
+    ensures said { FirstOfSchedule (F.told shelf.old) name.now boot.now (status_so_far result) said.new.items }
 {
     *said = Vec::new(alloc);
-    let machines = system.boot.machines.len() as u8;
+    let machines = boot.machines.len() as u8;
     match read_file(alloc, shelf, name, MOST_SCHEDULE) {
         Ok(bytes) => match read_schedule(alloc, bytes.as_slice(), machines) {
             Ok(directives) => Ok(directives),
             Err(ScheduleError::Refused { line, fault }) => {
-                match first_of_schedule(
-                    alloc,
-                    system.file.as_slice(),
-                    &system.boot,
-                    bytes.as_slice(),
-                    line,
-                    fault,
-                ) {
+                match first_of_schedule(alloc, boot, bytes.as_slice(), line, fault) {
                     Ok(first) => {
                         *said = first;
                         Err(Status::ScheduleRefused {

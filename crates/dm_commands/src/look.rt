@@ -22,39 +22,40 @@ use dm_world::Stop;
 use std::alloc::Global;
 
 /// Runs the schedule of the second name on the system of the boot file of the first up to so many groups, and writes where everything
-/// stands then, and what is in the messages.
+/// stands then, and what is in the messages, behind the names of the boot file's processes where they are asked for.
 pub fn look_files<F: Shelf, K: Sink>(
     alloc: Global,
     boot: &str,
     schedule: &str,
     groups: u32,
+    names: bool,
     shelf: &mut F,
     out: &mut K,
     said: &mut Vec<u8>,
 ) -> Status
     requires law { RunsGo }
-    ensures meets { LookMeets (LookSays by_world held_by_world groups) boot.now schedule.now
+    ensures meets { LookMeets (LookSays by_world held_by_world groups names) boot.now schedule.now
         (around (shelf_around F.asked F.told F.faults F.last_failed shelf.old shelf.new)
         (sink_around K.told K.faults K.last_failed out.old out.new)) None result }
     ensures said { FirstOfFiles (F.told shelf.old) boot.now schedule.now result said.new.items }
 {
     match read_files(alloc, boot, schedule, shelf, said) {
-        Ok(inputs) => look(alloc, inputs, groups, out),
+        Ok(inputs) => look(alloc, inputs, groups, names, out),
         Err(status) => status,
     }
 }
 
 /// Runs a system by these directives up to so many groups, and writes what is seen.
-fn look<K: Sink>(alloc: Global, inputs: Inputs, groups: u32, out: &mut K) -> Status
+fn look<K: Sink>(alloc: Global, inputs: Inputs, groups: u32, names: bool, out: &mut K) -> Status
     requires law { RunsGo }
     requires valid { IsValid inputs.boot }
     requires each { All (IsFor (length inputs.boot.machines)) inputs.directives.items }
     requires few { length inputs.directives.items ≤ MOST_SCHEDULE }
-    ensures says { LookSays by_world held_by_world groups inputs.boot inputs.directives.items (K.told out.old) (K.told out.new) None result }
+    ensures says { LookSays by_world held_by_world groups names inputs.boot inputs.directives.items (K.told out.old) (K.told out.new) None result }
     ensures sink { MeetsSink (sink_around K.told K.faults K.last_failed out.old out.new) result }
 {
     let Inputs { boot, directives } = inputs;
-    match look_at(alloc, boot, directives.as_slice(), groups) {
+    match look_at(alloc, boot, directives.as_slice(), groups, names) {
         Ok(text) => ended(write_all(out, text.as_slice()), Status::Done),
         Err(Stop::Worn { from, to }) => Status::Worn { from, to },
         Err(Stop::NoMemory(no)) => Status::NoMemory(no),

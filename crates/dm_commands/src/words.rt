@@ -75,8 +75,9 @@ pub fn do_words<F: Shelf, K: Sink>(
                 boot,
                 schedule,
                 groups,
+                names,
             },
-        ) => look_files(alloc, boot, schedule, groups, shelf, out, said),
+        ) => look_files(alloc, boot, schedule, groups, names, shelf, out, said),
         Ok(
             Request::Explore {
                 boot,

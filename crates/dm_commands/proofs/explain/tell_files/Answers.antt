@@ -1,5 +1,5 @@
 use Rattle.dm_commands.proofs.Names.{List, ℕ, Bor, option_map, subst, sym, Option}
-use Rattle.dm_commands.proofs.ExplainOutcomes.{file_told, system_says}
+use Rattle.dm_commands.proofs.ExplainOutcomes.{system_says}
 use Rattle.dm_commands.proofs.Meeting.{both_read}
 use Rattle.dm_commands.specs.Asked.{perhaps_both}
 use Rattle.dm_commands.specs.Meets.{MeetsShelf, status_so_far}
@@ -11,6 +11,6 @@ pub returns-in-Some-clause-shelf : goal.returns-in-Some-clause-shelf
 returns-in-Some-clause-shelf g c =
     let f = shelf_around g.F.Shelf.asked g.F.Shelf.told g.F.Shelf.faults g.F.Shelf.last_failed c.args.shelf.now c.tell_schedule.new.shelf in
     subst (λ (o : Option (Bor (List ℕ))). MeetsShelf (perhaps_both c.args.boot.now (option_map (λ b. b.now) o)) f (status_so_far c.tell_schedule.result)) (sym c.in-Some.is)
-    (both_read f c.tell_file.new.shelf c.args.boot.now input.Schedule c.in-Some.name.now c.in-System.system (status_so_far c.tell_schedule.result)
-    (system_says (g.F.Shelf.told c.args.shelf.now) c.args.boot.now c.in-System.system c.in-System.text c.in-Ok.told.told c.in-System.is (file_told (g.F.Shelf.told c.args.shelf.now) c.args.boot.now c.in-Ok.told.file.items c.in-Ok.told.told c.in-Ok.ensures.tells))
+    (both_read f c.tell_boot.new.shelf c.args.boot.now input.Schedule c.in-Some.name.now c.in-System.system (status_so_far c.tell_schedule.result)
+    (system_says (g.F.Shelf.told c.args.shelf.now) c.args.boot.now c.in-System.system c.in-System.text c.in-Ok.told c.in-System.is c.in-Ok.ensures.tells)
     c.in-Ok.ensures.shelf c.tell_schedule.ensures.shelf)

@@ -1,6 +1,6 @@
 use Rattle.dm_commands.proofs.Names.{Status}
 use Rattle.dm_commands.proofs.Meeting.{both_read, err_passed, passed_on}
-use Rattle.dm_commands.proofs.Saying.{boot_first, schedule_first, schedule_none, some_file}
+use Rattle.dm_commands.proofs.Saying.{boot_first, schedule_first, schedule_none}
 use Rattle.dm_commands.specs.Asked.{Both}
 use Rattle.dm_commands.specs.Firsts.{FirstOfFiles}
 use Rattle.dm_commands.specs.Inputs.{NoFiles}
@@ -11,22 +11,22 @@ use Rattle.dm_commands.proofs.inputs.read_files.Goals as goal
 pub returns-in_err-directives-clause-shelf : goal.returns-in_err-directives-clause-shelf
 returns-in_err-directives-clause-shelf g c =
     passed_on (MeetsShelf (Both c.args.boot.now input.Schedule c.args.schedule.now) _) c.from_residual-in_err-directives.result c.in_err-directives.field-0.0 c.from_residual-in_err-directives.ensures
-    (both_read _ c.read_file_system.new.shelf c.args.boot.now input.Schedule c.args.schedule.now c.in_ok-system.system.boot _ (some_file _ c.args.boot.now c.in_ok-system.system.file.items c.in_ok-system.system.boot c.in_ok-system.ensures.says) c.in_ok-system.ensures.shelf c.in_err-directives.ensures.shelf)
+    (both_read _ c.read_system.new.shelf c.args.boot.now input.Schedule c.args.schedule.now c.in_ok-boot.boot _ c.in_ok-boot.ensures.says c.in_ok-boot.ensures.shelf c.in_err-directives.ensures.shelf)
 
-pub returns-in_err-system-clause-said : goal.returns-in_err-system-clause-said
-returns-in_err-system-clause-said g c =
-    passed_on (λ (s : Status). FirstOfFiles (g.F.Shelf.told c.args.shelf.now) c.args.boot.now c.args.schedule.now s c.read_file_system.new.said.items) c.from_residual.result c.in_err-system.field-0.0 c.from_residual.ensures
-    (boot_first _ c.args.boot.now c.args.schedule.now _ _ _ _ c.in_err-system.ensures.none c.in_err-system.ensures.said)
+pub returns-in_err-boot-clause-said : goal.returns-in_err-boot-clause-said
+returns-in_err-boot-clause-said g c =
+    passed_on (λ (s : Status). FirstOfFiles (g.F.Shelf.told c.args.shelf.now) c.args.boot.now c.args.schedule.now s c.read_system.new.said.items) c.from_residual.result c.in_err-boot.field-0.0 c.from_residual.ensures
+    (boot_first _ c.args.boot.now c.args.schedule.now _ _ _ _ c.in_err-boot.ensures.none c.in_err-boot.ensures.said)
 
 pub returns-in_err-directives-clause-said : goal.returns-in_err-directives-clause-said
 returns-in_err-directives-clause-said g c =
     passed_on (λ (s : Status). FirstOfFiles (g.F.Shelf.told c.args.shelf.now) c.args.boot.now c.args.schedule.now s c.read_directives.new.said.items) c.from_residual-in_err-directives.result c.in_err-directives.field-0.0 c.from_residual-in_err-directives.ensures
-    (schedule_first (g.F.Shelf.told c.args.shelf.now) (g.F.Shelf.told c.read_file_system.new.shelf) c.args.boot.now c.args.schedule.now c.in_ok-system.system.file.items c.in_ok-system.system.boot _ _ _ _ c.in_ok-system.ensures.says c.in_ok-system.ensures.shelf.same c.in_err-directives.ensures.none c.in_err-directives.ensures.said)
+    (schedule_first (g.F.Shelf.told c.args.shelf.now) (g.F.Shelf.told c.read_system.new.shelf) c.args.boot.now c.args.schedule.now c.in_ok-boot.boot _ _ _ _ c.in_ok-boot.ensures.says c.in_ok-boot.ensures.shelf.same c.in_err-directives.ensures.none c.in_err-directives.ensures.said)
 
 pub returns-clause-shelf : goal.returns-clause-shelf
-returns-clause-shelf g c = both_read _ c.read_file_system.new.shelf c.args.boot.now input.Schedule c.args.schedule.now c.in_ok-system.system.boot _ (some_file _ c.args.boot.now c.in_ok-system.system.file.items c.in_ok-system.system.boot c.in_ok-system.ensures.says) c.in_ok-system.ensures.shelf c.in_ok-directives.ensures.shelf
+returns-clause-shelf g c = both_read _ c.read_system.new.shelf c.args.boot.now input.Schedule c.args.schedule.now c.in_ok-boot.boot _ c.in_ok-boot.ensures.says c.in_ok-boot.ensures.shelf c.in_ok-directives.ensures.shelf
 
 pub returns-in_err-directives-clause-none : goal.returns-in_err-directives-clause-none
 returns-in_err-directives-clause-none g c =
     err_passed (λ (s : Status). NoFiles (g.F.Shelf.told c.args.shelf.now) c.args.boot.now c.args.schedule.now (g.F.Shelf.faults c.args.shelf.now) (g.F.Shelf.faults c.read_directives.new.shelf) s) c.from_residual-in_err-directives.result c.in_err-directives.field-0.0 c.from_residual-in_err-directives.ensures
-    (schedule_none (g.F.Shelf.told c.args.shelf.now) (g.F.Shelf.told c.read_file_system.new.shelf) c.args.boot.now c.args.schedule.now c.in_ok-system.system.boot (g.F.Shelf.faults c.args.shelf.now) (g.F.Shelf.faults c.read_file_system.new.shelf) (g.F.Shelf.faults c.read_directives.new.shelf) _ (some_file _ c.args.boot.now c.in_ok-system.system.file.items c.in_ok-system.system.boot c.in_ok-system.ensures.says) c.in_ok-system.ensures.shelf.same c.in_ok-system.ensures.shelf.blames c.in_err-directives.ensures.none)
+    (schedule_none (g.F.Shelf.told c.args.shelf.now) (g.F.Shelf.told c.read_system.new.shelf) c.args.boot.now c.args.schedule.now c.in_ok-boot.boot (g.F.Shelf.faults c.args.shelf.now) (g.F.Shelf.faults c.read_system.new.shelf) (g.F.Shelf.faults c.read_directives.new.shelf) _ c.in_ok-boot.ensures.says c.in_ok-boot.ensures.shelf.same c.in_ok-boot.ensures.shelf.blames c.in_err-directives.ensures.none)

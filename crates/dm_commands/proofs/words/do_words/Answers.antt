@@ -119,7 +119,7 @@ returns-in-Ok-Look-clause-said g c =
     subst (λ (r : Option Request). SaysFirst r (g.F.Shelf.told c.args.shelf.now) c.look_files.result c.look_files.new.said.items) (sym (c.in-Ok-Look.ensures.asks ∙ ap (λ (r : TheRequest). Some (request_said r)) c.in-Ok-Look.field-0-is)) c.look_files.ensures.said
 
 pub returns-in-Ok-Look-clause-refused : goal.returns-in-Ok-Look-clause-refused
-returns-in-Ok-Look-clause-refused g c = λ usage taken. absurd (run_taken (LookSays by_world held_by_world c.in-Ok-Look.groups) _ _ _ _ c.look_files.result (λ b ds before after w h. h) c.look_files.ensures.meets.as_run usage)
+returns-in-Ok-Look-clause-refused g c = λ usage taken. absurd (run_taken (LookSays by_world held_by_world c.in-Ok-Look.groups c.in-Ok-Look.names) _ _ _ _ c.look_files.result (λ b ds before after w h. h) c.look_files.ensures.meets.as_run usage)
 
 pub drill-requires : goal.drill-requires
 drill-requires g c = record { law = c.requires.law; within = subst IsInRange c.in-Ok-Drill.field-0-is c.in-Ok-Drill.ensures.within }
