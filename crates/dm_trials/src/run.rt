@@ -1,6 +1,8 @@
 //! A run of the program, and what it must come to.
 
-use crate::program::{Done, run_over_files, sink_of};
+use crate::done::Done;
+use crate::pair::sink_of;
+use crate::program::{Program, run_over_files};
 use anyhow::Result;
 use std::alloc::AllocError;
 use std::process::ExitCode;
@@ -63,17 +65,16 @@ impl<'a> Run<'a> {
 
     /// Runs the program, and compares its exit status, its lines on standard error and its whole output with what they
     /// must be.
-    pub fn ending(&self, rt: &HostRuntime) -> Result<Ending> {
-        let done = self.done(rt)?;
+    pub fn ending<P: Program>(&self, rt: &HostRuntime, program: &P) -> Result<Ending> {
         let output = fs::read(rt, self.expected.output)?;
+        let done = self.done(rt, program)?;
         Ok(self.expected.ending(&done, output.as_slice()))
     }
 
     /// Runs the program.
-    fn done(&self, rt: &HostRuntime) -> Result<Done, AllocError> {
-        let alloc = rt.alloc();
-        let out = sink_of(alloc, self.room, Vec::new(alloc))?;
-        run_over_files(rt, self.words, out)
+    fn done<P: Program>(&self, rt: &HostRuntime, program: &P) -> Result<Done, AllocError> {
+        let out = sink_of(rt.alloc(), self.room)?;
+        run_over_files(rt, program, self.words, out)
     }
 }
 
@@ -89,9 +90,9 @@ impl<'a> Expected<'a> {
 
     /// How a run ended that came to this, where its whole output must be these bytes.
     fn ending(&self, done: &Done, output: &[u8]) -> Ending {
-        if done.status != ExitCode::from(self.status) {
+        if done.end.status != ExitCode::from(self.status) {
             Ending::OtherStatus
-        } else if !are_lines(done.errors.bytes(), self.lines) {
+        } else if !are_lines(done.end.errors.bytes(), self.lines) {
             Ending::OtherLines
         } else if done.out.bytes() != output {
             Ending::OtherOutput
@@ -120,20 +121,4 @@ fn are_lines(bytes: &[u8], lines: &str) -> bool {
 fn behind_line<'b>(bytes: &'b [u8], line: &str) -> Option<&'b [u8]> {
     let rest = bytes.strip_prefix(line.as_bytes())?;
     rest.strip_prefix(b"\n")
-}
-
-/// Whether this is the last line of the bytes, with its line feed, or they are nothing where it is empty.
-pub fn is_last_line(bytes: &[u8], line: &str) -> bool {
-    match bytes.split_last() {
-        Some((last, text)) => *last == b'\n' && !line.is_empty() && ends_so(text, line.as_bytes()),
-        None => line.is_empty(),
-    }
-}
-
-/// Whether a text is this line, or ends with it and a line feed before it.
-fn ends_so(text: &[u8], line: &[u8]) -> bool {
-    match text.strip_suffix(line) {
-        Some(before) => before.is_empty() || before.ends_with(b"\n"),
-        None => false,
-    }
 }

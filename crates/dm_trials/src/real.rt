@@ -2,7 +2,9 @@
 
 use anyhow::Result;
 use dm_outside::{Failed, RealShelf, RealSink, Shelf, Sink};
-use std::io;
+use std::alloc::{AllocError, Global};
+use std::fs::Files;
+use std::io::{self, Write};
 
 /// Reads of real files: on in one, from the start of another, those that don't go on where the last one ended, a name with a blank
 /// at its end, a file that can't be opened for writing, since it runs, and names that are nearly those of a file: with a capital, with
@@ -35,13 +37,22 @@ const LARGE: usize = 2_097_153;
 
 /// Reads two files of data/ in turn, those that aren't there, and one by long names.
 pub fn read_files(rt: &HostRuntime) -> Result<()> {
-    let mut shelf = RealShelf::new(rt);
+    read_all(rt, &mut RealShelf::new(rt))
+}
+
+/// Does the reads over a shelf of files.
+fn read_all<R: Files>(rt: &HostRuntime, shelf: &mut RealShelf<R>) -> Result<()> {
+    say_reads(rt, shelf)?;
+    say_long_read(rt, shelf, MOST_STEPS)?;
+    say_long_read(rt, shelf, MOST_STEPS + 1)?;
+    Ok(say_faults(rt, "read", shelf.faults())?)
+}
+
+/// Does the reads of the table, and says what came of them.
+fn say_reads<F: Shelf>(rt: &HostRuntime, shelf: &mut F) -> io::Result<()> {
     for (name, from) in &READS {
-        say_read(rt, &mut shelf, name, *from)?;
+        say_read(rt, shelf, name, *from)?;
     }
-    say_long_read(rt, &mut shelf, MOST_STEPS)?;
-    say_long_read(rt, &mut shelf, MOST_STEPS + 1)?;
-    say_faults(rt, "read", shelf.faults())?;
     Ok(())
 }
 
@@ -56,20 +67,35 @@ fn say_read<F: Shelf>(rt: &HostRuntime, shelf: &mut F, name: &str, from: u64) ->
 
 /// Reads four bytes of a file by a name with so many steps to where it is already, and says what came of it.
 fn say_long_read<F: Shelf>(rt: &HostRuntime, shelf: &mut F, steps: usize) -> Result<()> {
-    let mut name = "./".repeat(rt.alloc(), steps)?;
+    let name = long_name(rt.alloc(), steps)?;
+    Ok(say_named_read(rt, shelf, name.as_str())?)
+}
+
+/// A name with so many steps to where it is already.
+fn long_name(alloc: Global, steps: usize) -> Result<String, AllocError> {
+    let mut name = "./".repeat(alloc, steps)?;
     name.push_str("first")?;
-    let read = shelf.read(name.as_str(), 0, &mut [0; 4]);
+    Ok(name)
+}
+
+/// Reads four bytes of a file by its name, of which the length is said, and says what came of it.
+fn say_named_read<F: Shelf>(rt: &HostRuntime, shelf: &mut F, name: &str) -> io::Result<()> {
+    let read = shelf.read(name, 0, &mut [0; 4]);
     let length = name.len();
-    println!(rt; "read first by a name of {length} bytes: {read:?}")?;
-    Ok(())
+    println!(rt; "read first by a name of {length} bytes: {read:?}")
 }
 
 /// Writes a line, and nothing; and a large piece, into memory.
 pub fn write_out(rt: &HostRuntime) -> Result<()> {
-    let mut sink = RealSink::new(io::writer(rt));
-    say_writes(rt, &mut sink)?;
-    say_faults(rt, "write", sink.faults())?;
-    say_large_write(rt)
+    write_both(rt, &mut RealSink::new(io::writer(rt)))?;
+    let piece = ".".repeat(rt.alloc(), LARGE)?;
+    Ok(say_large_write(rt, piece.as_bytes())?)
+}
+
+/// Writes a line, and nothing.
+fn write_both<W: Write>(rt: &HostRuntime, sink: &mut RealSink<W>) -> io::Result<()> {
+    say_writes(rt, sink)?;
+    say_faults(rt, "write", sink.faults())
 }
 
 /// Does both writes, and says what came of them.
@@ -79,13 +105,10 @@ fn say_writes<K: Sink>(rt: &HostRuntime, sink: &mut K) -> io::Result<()> {
     println!(rt; "written: {line:?}, {nothing:?}")
 }
 
-/// Writes a large piece at once, and says what came of it.
-fn say_large_write(rt: &HostRuntime) -> Result<()> {
-    let mut sink = RealSink::new(Vec::new(rt.alloc()));
-    let piece = ".".repeat(rt.alloc(), LARGE)?;
-    let written = sink.write(piece.as_bytes());
-    println!(rt; "written at once: {written:?}")?;
-    Ok(())
+/// Writes a large piece at once, into memory, and says what came of it.
+fn say_large_write(rt: &HostRuntime, piece: &[u8]) -> io::Result<()> {
+    let written = RealSink::new(Vec::new(rt.alloc())).write(piece);
+    println!(rt; "written at once: {written:?}")
 }
 
 /// How many calls of a kind were faults.

@@ -1,7 +1,6 @@
 //! The calls that may lack memory, each at a size: more than 65,536 values in a list, as many keys in a map, as many zeros as one may
 //! ask for. Whether a call lacks memory depends on the allocator alone, so here none does.
 
-use anyhow::Result;
 use dm_memory::{
     NoMemory, append_zeros, extend_from_slice, from_slice, insert, insert_or_return, push,
     push_back, push_back_or_return, push_front, push_or_return, repeated, reserve_for,
@@ -24,24 +23,32 @@ const MOST_REPEATED: usize = 256;
 const ROOM: usize = 1_048_576;
 
 /// Makes each call at its size, and says how many values came of it.
-pub fn take_memory(rt: &HostRuntime) -> Result<()> {
-    let alloc = rt.alloc();
-    say_taken(rt, "push", pushed(alloc))?;
-    say_taken(rt, "push_or_return", pushed_or_returned(alloc))?;
-    say_taken(rt, "reserve_for", reserved(alloc))?;
-    say_taken(rt, "extend_from_slice", extended(alloc))?;
-    say_taken(rt, "append_zeros", zeros_appended(alloc))?;
-    say_taken(rt, "with_room", roomy(alloc))?;
-    say_taken(rt, "from_slice", copied(alloc))?;
-    say_taken(rt, "zeros", zeroed(alloc))?;
-    say_taken(rt, "repeated", same(alloc))?;
-    say_taken(rt, "push_back", pushed_back(alloc))?;
-    say_taken(rt, "push_back_or_return", pushed_back_or_returned(alloc))?;
-    say_taken(rt, "push_front", pushed_front(alloc))?;
-    say_taken(rt, "room_for_both", roomy_for_both(alloc))?;
-    say_taken(rt, "insert", inserted(alloc))?;
-    say_taken(rt, "insert_or_return", inserted_or_returned(alloc))?;
+pub fn take_memory(rt: &HostRuntime) -> io::Result<()> {
+    for (call, taken) in &taken(rt.alloc()) {
+        say_taken(rt, call, *taken)?;
+    }
     Ok(())
+}
+
+/// What came of each call.
+fn taken(alloc: Global) -> [(&'static str, Result<usize, NoMemory>); 15] {
+    [
+        ("push", pushed(alloc)),
+        ("push_or_return", pushed_or_returned(alloc)),
+        ("reserve_for", reserved(alloc)),
+        ("extend_from_slice", extended(alloc)),
+        ("append_zeros", zeros_appended(alloc)),
+        ("with_room", roomy(alloc)),
+        ("from_slice", copied(alloc)),
+        ("zeros", zeroed(alloc)),
+        ("repeated", same(alloc)),
+        ("push_back", pushed_back(alloc)),
+        ("push_back_or_return", pushed_back_or_returned(alloc)),
+        ("push_front", pushed_front(alloc)),
+        ("room_for_both", roomy_for_both(alloc)),
+        ("insert", inserted(alloc)),
+        ("insert_or_return", inserted_or_returned(alloc)),
+    ]
 }
 
 /// Says how many values came of a call, or that memory lacked.

@@ -1,8 +1,7 @@
 //! A row of the system's tables, and the run that shows it.
 
 use crate::run::Run;
-use anyhow::Result;
-use std::fs;
+use std::{fs, io};
 
 /// A row, and where it is shown.
 #[derive(Clone, Copy)]
@@ -37,17 +36,20 @@ impl<'a> Row<'a> {
     }
 
     /// Whether its run is one of these, and says its lines.
-    pub fn is_shown(&self, rt: &HostRuntime, good: &[Run<'_>]) -> Result<bool> {
+    pub fn is_shown(&self, rt: &HostRuntime, good: &[Run<'_>]) -> io::Result<bool> {
         for run in good {
             if run.name == self.run {
-                let output = fs::read_to_string(rt, run.expected.output)?;
-                return Ok(
-                    says(run, &output, self.line)
-                        && self.put.is_none_or(|put| says(run, &output, put)),
-                );
+                return self.is_shown_by(rt, run);
             }
         }
         Ok(false)
+    }
+
+    /// Whether a run says its lines.
+    fn is_shown_by(&self, rt: &HostRuntime, run: &Run<'_>) -> io::Result<bool> {
+        let output = fs::read_to_string(rt, run.expected.output)?;
+        let text = output.as_str();
+        Ok(says(run, text, self.line) && self.put.is_none_or(|put| says(run, text, put)))
     }
 }
 

@@ -1,7 +1,9 @@
 //! The bytes of the two servers, as one machine would hand them to another: what is unpacked, that it is packed to the same bytes, and
 //! which rule bytes break that are one byte off.
 
-use anyhow::Result;
+ghost use Rattle.dm_switchboard.specs.Lawful.{IsLawfulBoard};
+ghost use Rattle.dm_procman.specs.Lawful.{IsLawfulManager};
+
 use dm_memory::NoMemory;
 use dm_procman::ProcMan;
 use dm_switchboard::{ServerError, Switchboard};
@@ -58,11 +60,22 @@ const MACHINES: u8 = 2;
 const IMAGES: u16 = 5;
 
 /// Unpacks both servers, packs them again, and tries the bytes that are one byte off.
-pub fn pack_servers(rt: &HostRuntime) -> Result<()> {
+pub fn pack_servers(rt: &HostRuntime) -> io::Result<()> {
+    pack_board(rt)?;
+    pack_manager(rt)
+}
+
+/// Unpacks the switchboard and packs it again, and tries bytes that are one off.
+fn pack_board(rt: &HostRuntime) -> io::Result<()> {
     say_board(rt)?;
     for (place, byte) in &BOARD_SLIPS {
         say_board_slip(rt, *place, *byte)?;
     }
+    Ok(())
+}
+
+/// The same of the manager.
+fn pack_manager(rt: &HostRuntime) -> io::Result<()> {
     say_manager(rt)?;
     for (place, byte) in &MANAGER_SLIPS {
         say_manager_slip(rt, *place, *byte)?;
@@ -73,31 +86,40 @@ pub fn pack_servers(rt: &HostRuntime) -> Result<()> {
 /// The worked switchboard.
 fn say_board(rt: &HostRuntime) -> io::Result<()> {
     match Switchboard::unpack(rt.alloc(), &BOARD) {
-        Ok(board) => {
-            let (names, sent, moves) = (board.len(), board.sent(), board.moves());
-            let same = names <= 2 && are_bytes(board.pack(rt.alloc()), &BOARD);
-            println!(rt;
-                "switchboard: {names} names, {sent} sent, {moves} moves, packed to the same bytes: {same}"
-            )
-        }
+        Ok(board) => say_read_board(rt, &board),
         Err(error) => println!(rt; "switchboard: WRONG, {error}"),
     }
+}
+
+/// The switchboard that was read.
+fn say_read_board(rt: &HostRuntime, board: &Switchboard) -> io::Result<()>
+    requires { IsLawfulBoard board.now }
+{
+    let (names, sent, moves) = (board.len(), board.sent(), board.moves());
+    let same = names <= 2 && are_bytes(board.pack(rt.alloc()), &BOARD);
+    println!(rt;
+        "switchboard: {names} names, {sent} sent, {moves} moves, packed to the same bytes: {same}"
+    )
 }
 
 /// The worked manager.
 fn say_manager(rt: &HostRuntime) -> io::Result<()> {
     match ProcMan::unpack(rt.alloc(), &MANAGER, MACHINES, IMAGES) {
-        Ok(manager) => {
-            let (children, requests) = (manager.children().len(), manager.waiting());
-            let (sent, moves) = (manager.sent(), manager.moves());
-            let few = children <= 2 && requests <= 2;
-            let same = few && are_bytes(manager.pack(rt.alloc()), &MANAGER);
-            println!(rt;
-                "manager: {children} children, {requests} requests, {sent} sent, {moves} moves, packed to the same bytes: {same}"
-            )
-        }
+        Ok(manager) => say_read_manager(rt, &manager),
         Err(error) => println!(rt; "manager: WRONG, {error}"),
     }
+}
+
+/// The manager that was read.
+fn say_read_manager(rt: &HostRuntime, manager: &ProcMan) -> io::Result<()>
+    requires { IsLawfulManager manager.now }
+{
+    let (children, requests) = (manager.children().len(), manager.waiting());
+    let same = children <= 2 && requests <= 2 && are_bytes(manager.pack(rt.alloc()), &MANAGER);
+    let (sent, moves) = (manager.sent(), manager.moves());
+    println!(rt;
+        "manager: {children} children, {requests} requests, {sent} sent, {moves} moves, packed to the same bytes: {same}"
+    )
 }
 
 /// Whether a server was packed to the worked bytes.

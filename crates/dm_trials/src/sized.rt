@@ -1,12 +1,12 @@
 //! Runs that are large: lists of more than 65,536 directives, groups, packets and messages, and a boot file as long as one may be. No
 //! memory lacks for their size alone.
 
-use crate::failing::{shelf_of, verdict};
-use crate::program::{Done, run_over, sink_of};
-use crate::run::is_last_line;
+use crate::done::{Done, verdict};
+use crate::pair::{Pair, sink_of};
+use crate::program::{Program, run_over};
 use anyhow::Result;
-use dm_outside::MemSink;
-use std::process::ExitCode;
+use dm_outside::MemShelf;
+use std::alloc::AllocError;
 use std::{fs, io};
 
 /// A command over two files in memory, of which the second is long.
@@ -15,8 +15,9 @@ struct Large {
     name: &'static str,
     /// The words behind the program's name, with a space between. Its shelf has two files, `boot` and `other`.
     words: &'static str,
-    /// What `boot` is a copy of.
+    /// What `boot` is a copy of; it is made as long as this by a remark at its end, where it is shorter.
     boot: &'static str,
+    boot_length: usize,
     /// What `other` begins with.
     other: &'static str,
     /// What stands behind that, so many times.
@@ -27,11 +28,12 @@ struct Large {
     output: &'static str,
 }
 
-const LARGE: [Large; 7] = [
+const LARGE: [Large; 8] = [
     Large {
         name: "run of many groups",
         words: "run --boot boot --schedule other",
         boot: "nobody.boot",
+        boot_length: 0,
         other: "nobody.schedule",
         line: "turn 0\n",
         times: 70_000,
@@ -42,6 +44,7 @@ const LARGE: [Large; 7] = [
         name: "check of many groups",
         words: "check --boot boot --trace other",
         boot: "nobody.boot",
+        boot_length: 0,
         other: "nobody.schedule",
         line: "turn 0\nidle 0\n",
         times: 70_000,
@@ -52,6 +55,7 @@ const LARGE: [Large; 7] = [
         name: "check of many labels",
         words: "check --boot boot --labels other",
         boot: "hi.boot",
+        boot_length: 0,
         other: "nobody.schedule",
         line: "ran 0.3 0\n",
         times: 70_000,
@@ -62,6 +66,7 @@ const LARGE: [Large; 7] = [
         name: "count of many groups",
         words: "count --boot boot --schedule other",
         boot: "nobody.boot",
+        boot_length: 0,
         other: "nobody.schedule",
         line: "turn 0\n",
         times: 70_000,
@@ -72,6 +77,7 @@ const LARGE: [Large; 7] = [
         name: "count of many packets",
         words: "count --boot boot --schedule other",
         boot: "many_packets.boot",
+        boot_length: 0,
         other: "many_packets.schedule",
         line: "tick 0\n",
         times: 9_000,
@@ -82,6 +88,7 @@ const LARGE: [Large; 7] = [
         name: "count of many messages",
         words: "count --boot boot --schedule other",
         boot: "many_packets.boot",
+        boot_length: 0,
         other: "nobody.schedule",
         line: "turn 0\n",
         times: 70_000,
@@ -92,11 +99,23 @@ const LARGE: [Large; 7] = [
         name: "explain of many directives",
         words: "explain --boot boot --schedule other",
         boot: "hi.boot",
+        boot_length: 0,
         other: "nobody.schedule",
         line: "turn 0\n",
         times: 70_000,
         group: "",
         output: "said_many_turns.out",
+    },
+    Large {
+        name: "run of the longest boot file",
+        words: "run --boot boot --schedule other",
+        boot: "hi.boot",
+        boot_length: LONGEST_BOOT,
+        other: "hi.schedule",
+        line: "",
+        times: 0,
+        group: "",
+        output: "hi.out",
     },
 ];
 
@@ -106,6 +125,7 @@ const MISTAKEN: [Large; 2] = [
         name: "another output of many groups",
         words: "check --boot boot --trace other",
         boot: "nobody.boot",
+        boot_length: 0,
         other: "nobody.schedule",
         line: "turn 0\nidle 0\n",
         times: 70_000,
@@ -116,6 +136,7 @@ const MISTAKEN: [Large; 2] = [
         name: "another status",
         words: "check --boot boot",
         boot: "nobody.boot",
+        boot_length: 0,
         other: "nobody.schedule",
         line: "",
         times: 0,
@@ -127,78 +148,75 @@ const MISTAKEN: [Large; 2] = [
 /// The most bytes of a boot file.
 const LONGEST_BOOT: usize = 1_048_576;
 
+/// More bytes than any of these runs writes.
+const ROOM: usize = 2_097_152;
+
 /// Does each large run, and says whether it ended as it must.
-pub fn run_large(rt: &HostRuntime) -> Result<()> {
+pub fn run_large<P: Program>(rt: &HostRuntime, program: &P) -> Result<()> {
     for large in &LARGE {
-        let right = verdict(is_large_right(rt, large)?);
-        say_large(rt, large.name, right)?;
+        say_large(rt, program, large)?;
     }
-    let right = verdict(is_long_right(rt)?);
-    say_large(rt, "run of the longest boot file", right)?;
     for mistaken in &MISTAKEN {
-        let right = verdict(is_large_right(rt, mistaken)?);
-        say_large(rt, mistaken.name, right)?;
+        say_large(rt, program, mistaken)?;
     }
     Ok(())
 }
 
+/// Does a large run, and says whether it ended as it must.
+fn say_large<P: Program>(rt: &HostRuntime, program: &P, large: &Large) -> Result<()> {
+    let right = is_large_right(rt, program, large)?;
+    Ok(say_right(rt, large.name, right)?)
+}
+
 /// Says whether a large run ended as it must.
-fn say_large(rt: &HostRuntime, name: &str, right: &str) -> io::Result<()> {
-    println!(rt; "{name}: {right}")
+fn say_right(rt: &HostRuntime, name: &str, right: bool) -> io::Result<()> {
+    let verdict = verdict(right);
+    println!(rt; "{name}: {verdict}")
 }
 
 /// Whether a large run ends with status 0, says nothing and writes what it must.
-fn is_large_right(rt: &HostRuntime, large: &Large) -> Result<bool> {
-    let alloc = rt.alloc();
-    let boot = fs::read(rt, large.boot)?;
-    let other = lengthened(rt, large.other, large.line, large.times)?;
+fn is_large_right<P: Program>(rt: &HostRuntime, program: &P, large: &Large) -> Result<bool> {
     let expected = expected(rt, large)?;
-    let mut shelf = shelf_of(alloc, boot, other, Vec::new(alloc))?;
-    let out = large_sink(rt, expected.len())?;
-    let done = run_over(alloc, large.words, &mut shelf, out)?;
-    Ok(is_done(&done, expected.as_slice()))
+    let done = large_done(rt, program, large)?;
+    Ok(done.end.is(0, "") && done.out.bytes() == expected.as_slice())
 }
 
 /// What a large run must write.
 fn expected(rt: &HostRuntime, large: &Large) -> Result<Vec<u8>> {
-    let groups = large.group.repeat(rt.alloc(), large.times)?;
-    let mut expected = Vec::from_slice(rt.alloc(), groups.as_bytes())?;
+    let mut expected = Vec::new(rt.alloc());
+    append(&mut expected, large.group, large.times)?;
     let output = fs::read(rt, large.output)?;
     expected.extend_from_slice(output.as_slice())?;
     Ok(expected)
 }
 
-/// A file with a line behind it, so many times.
-fn lengthened(rt: &HostRuntime, name: &str, line: &str, times: usize) -> Result<Vec<u8>> {
-    let mut bytes = fs::read(rt, name)?;
-    let more = line.repeat(rt.alloc(), times)?;
-    bytes.extend_from_slice(more.as_bytes())?;
-    Ok(bytes)
+/// Does a large run.
+fn large_done<P: Program>(rt: &HostRuntime, program: &P, large: &Large) -> Result<Done> {
+    let mut shelf = large_shelf(rt, large)?;
+    let out = sink_of(rt.alloc(), ROOM)?;
+    Ok(run_over(rt.alloc(), program, large.words, &mut shelf, out)?)
 }
 
-/// A sink for so many bytes and one more.
-fn large_sink(rt: &HostRuntime, room: usize) -> Result<MemSink> {
+/// The shelf of a large run.
+fn large_shelf(rt: &HostRuntime, large: &Large) -> Result<MemShelf> {
     let alloc = rt.alloc();
-    Ok(sink_of(alloc, room.saturating_add(1), Vec::new(alloc))?)
+    let files = lengthened(rt, large)?;
+    Ok(files.shelf(alloc, Vec::new(alloc))?)
 }
 
-/// Whether a run ended with status 0, said nothing and wrote these bytes.
-fn is_done(done: &Done, expected: &[u8]) -> bool {
-    done.status == ExitCode::from(0)
-        && is_last_line(done.errors.bytes(), "")
-        && done.out.bytes() == expected
+/// The files of a large run.
+fn lengthened(rt: &HostRuntime, large: &Large) -> Result<Pair> {
+    let mut files = Pair::read(rt, large.boot, large.other)?;
+    let more = large.boot_length.saturating_sub(files.boot.len());
+    append(&mut files.boot, "#", more)?;
+    append(&mut files.other, large.line, large.times)?;
+    Ok(files)
 }
 
-/// Whether the first run is the same where its boot file is as long as one may be, by a remark at its end.
-fn is_long_right(rt: &HostRuntime) -> Result<bool> {
-    let alloc = rt.alloc();
-    let length = fs::read(rt, "hi.boot")?.len();
-    let more = LONGEST_BOOT.saturating_sub(length);
-    let boot = lengthened(rt, "hi.boot", "#", more)?;
-    let other = fs::read(rt, "hi.schedule")?;
-    let expected = fs::read(rt, "hi.out")?;
-    let mut shelf = shelf_of(alloc, boot, other, Vec::new(alloc))?;
-    let out = large_sink(rt, expected.len())?;
-    let done = run_over(alloc, "run --boot boot --schedule other", &mut shelf, out)?;
-    Ok(is_done(&done, expected.as_slice()))
+/// Adds a text at the end, so many times.
+fn append(bytes: &mut Vec<u8>, text: &str, times: usize) -> Result<(), AllocError> {
+    for _ in 0..times {
+        bytes.extend_from_slice(text.as_bytes())?;
+    }
+    Ok(())
 }
