@@ -9,6 +9,7 @@ ghost use Rattle.dm_node.specs.State.{node_opened};
 use crate::node::Node;
 use dm_kernel::Kernel;
 use dm_link::MACHINES;
+use dm_lists::Queue;
 use dm_memory::{NoMemory, Parcel, push};
 use dm_message::Message;
 use dm_onekernel::Boot;
@@ -34,6 +35,7 @@ impl Node {
             home: 0,
             senders,
             receivers,
+            parts: Queue::new(alloc),
         })
     }
 }

@@ -1,7 +1,8 @@
 //! A turn and a tick of a machine.
-ghost use Rattle.std.specs.Prelude.{◌≡◌, ◌<◌, ◌≤◌, ◌+◌, ◌^◌, ◌++◌, [], IfOk, true, OnOk};
+ghost use Rattle.std.specs.Prelude.{◌≡◌, ◌<◌, ◌≤◌, ◌+◌, ◌++◌, [], IfOk, true, OnOk};
 ghost use Rattle.std.specs.List.{All};
 ghost use Rattle.dm_onekernel.specs.Boot.{images_are_valid};
+ghost use Rattle.dm_packet.specs.Lawful.{IsRoute};
 ghost use Rattle.dm_kernel.specs.Carried.{FreezesWhole};
 ghost use Rattle.dm_kernel.specs.Lawful.{IsLawfulPart, IsLawfulState};
 ghost use Rattle.dm_node.specs.Acts.{acts, all_out, asks_move, calls_off, count_out, counts_out, first_out, tick, turn};
@@ -15,8 +16,11 @@ use crate::stop::Stop;
 use dm_kernel::{Part, calls_off_lawfully, moves_are_asked_lawfully, turns_are_lawful};
 use dm_line::line::Line;
 use dm_link::{MACHINES, Pid};
-use dm_memory::{NoMemory, Parcel};
+use dm_lists::Queue;
+use dm_memory::NoMemory;
 use dm_onekernel::Boot;
+use std::alloc::Global;
+use std::mem;
 
 impl Node {
     /// Takes a turn. What it gives comes to the end of `outs`. It stops as worn exactly where it would route a message
@@ -31,10 +35,9 @@ impl Node {
         ensures whole { OrNoMemory result (FreezesWhole (node_state self.old).kernel (node_state self.old).kernel.inbox) }
     {
         turns_are_lawful();
-        match self.kernel.turn(boot) {
-            Ok(parts) => self.act(parts, outs),
-            Err(e) => Err(Stop::NoMemory(e)),
-        }
+        let mut parts = emptied(self.alloc, &mut self.parts);
+        self.kernel.turn(boot, &mut parts)?;
+        self.act(parts, outs)
     }
 
     /// Has the manager tell a process or a server to move to a machine, on the machine where the manager is. What it gives comes to
@@ -47,10 +50,9 @@ impl Node {
         ensures { AnswersSome result self.new outs.old.items outs.new.items (asks_move (node_state self.old) pid to) }
     {
         moves_are_asked_lawfully();
-        match self.kernel.ask_move(pid, to) {
-            Ok(parts) => self.act(parts, outs),
-            Err(e) => Err(Stop::NoMemory(e)),
-        }
+        let mut parts = emptied(self.alloc, &mut self.parts);
+        self.kernel.ask_move(pid, to, &mut parts)?;
+        self.act(parts, outs)
     }
 
     /// Calls off the migration of a process to this machine. What it gives comes to the end of `outs`, and it stops as worn like
@@ -62,26 +64,25 @@ impl Node {
         ensures { AnswersSome result self.new outs.old.items outs.new.items (calls_off (node_state self.old) pid) }
     {
         calls_off_lawfully();
-        match self.kernel.call_off(pid) {
-            Ok(parts) => self.act(parts, outs),
-            Err(e) => Err(Stop::NoMemory(e)),
-        }
+        let mut parts = emptied(self.alloc, &mut self.parts);
+        self.kernel.call_off(pid, &mut parts)?;
+        self.act(parts, outs)
     }
 
-    /// Prints and routes the parts of a turn, in order.
-    fn act(&mut self, parts: Vec<Part>, outs: &mut Vec<Out>) -> Result<(), Stop>
+    /// Prints and routes the parts of an event of the kernel, in order, and keeps their list.
+    fn act(&mut self, mut parts: Queue<Part>, outs: &mut Vec<Out>) -> Result<(), Stop>
+        requires may { MayAct (node_state self.old) }
         requires streams { HasStreams self.old }
-        requires parts { All IsLawfulPart parts.items }
-        requires home { self.old.home ≤ self.old.numbers }
-        requires numbers { self.old.numbers < 2 ^ 32 }
-        ensures { Answers result self.new outs.old.items outs.new.items (acts (node_state self.old) parts.items) }
+        requires parts { All IsLawfulPart parts }
+        ensures { Answers result self.new outs.old.items outs.new.items (acts (node_state self.old) parts) }
     {
-        for part in parts {
+        while let Some(part) = parts.pop() {
             match part {
                 Part::Says(line) => push(outs, Out::Says(line))?,
                 Part::Routes(message) => self.route(message, outs)?,
             }
         }
+        self.parts = parts;
         Ok(())
     }
 
@@ -121,16 +122,29 @@ impl Node {
 
     /// Sends all packets again that are out to machine `to`.
     fn send_again(&self, to: u8, outs: &mut Vec<Out>) -> Result<(), NoMemory>
+        requires may { MayAct (node_state self.now) }
         requires streams { HasStreams self.now }
-        requires to { to < MACHINES }
+        requires route { IsRoute self.now.kernel.here to }
         ensures { OnOk result (outs.new.items ≡ outs.old.items ++ first_out (node_state self.now) to (count_out ((node_state self.now).senders to))) }
     {
         let count = self.count_out(to);
         for place in 0..count {
-            if let Some(packet) = self.outstanding(to, place as usize) {
-                push(outs, Out::Sends(Parcel::new(self.alloc, packet)?))?;
+            if let Some(packet) = self.outstanding(to, place as usize)? {
+                push(outs, Out::Sends(packet))?;
             }
         }
         Ok(())
+    }
+}
+
+/// The list that is kept for parts, without any; one that an event left in its middle is let go.
+fn emptied(alloc: Global, kept: &mut Queue<Part>) -> Queue<Part>
+    ensures { result ≡ [] }
+{
+    let parts = mem::replace(kept, Queue::new(alloc));
+    if parts.len() == 0 {
+        parts
+    } else {
+        Queue::new(alloc)
     }
 }

@@ -2,7 +2,8 @@
 #![tactic(auto)]
 
 ghost use Rattle.std.specs.Prelude.{◌≡◌, ◌++◌, ◌≤◌, IfOk, Ok, OnErr, OnOk, length};
-ghost use Rattle.dm_packet.specs.Lawful.{IsLawfulPacket};
+ghost use Rattle.dm_message.specs.Lawful.{IsLawfulMessage};
+ghost use Rattle.dm_packet.specs.Lawful.{IsLawfulPacket, IsRoute};
 ghost use Rattle.dm_packet.specs.Packets.{packet_of, spelling};
 ghost use Rattle.dm_packet.specs.Rules.{number_of_rule};
 ghost use Rattle.dm_packet.specs.Widths.{FitsPacket};
@@ -17,7 +18,7 @@ use dm_message::{Message, What};
 use front::Front;
 use reading::parts_at;
 use thiserror::Error;
-use writing::{Buffer, put_packet};
+use writing::{Buffer, put_ack, put_data};
 
 /// The room for a packet: no packet has more bytes.
 pub const MOST_PACKET: usize = 1024;
@@ -122,16 +123,37 @@ pub fn decode(bytes: &[u8]) -> Result<Packet, PacketError>
     }
 }
 
-/// Puts the one spelling of a packet, at most 1,024 bytes, at the end of a buffer, or leaves the buffer as it was.
-pub fn encode(packet: &Packet, out: &mut Vec<u8>) -> Result<(), NoMemory>
-    requires lawful { IsLawfulPacket packet.now }
-    ensures ok { OnOk result (out.new.items ≡ out.old.items ++ spelling packet.now) }
+/// Puts the one spelling of a message's packet, at most 1,024 bytes, at the end of a buffer, or leaves the buffer as it was.
+pub fn encode_data(
+    from: u8,
+    to: u8,
+    seq: u32,
+    message: &Message,
+    out: &mut Vec<u8>,
+) -> Result<(), NoMemory>
+    requires route { IsRoute from to }
+    requires lawful { IsLawfulMessage message.now }
+    ensures ok { OnOk result (out.new.items ≡ out.old.items ++ spelling (Packet.Data from to seq message.now)) }
     ensures err { OnErr result (out.new.items ≡ out.old.items) }
-    ensures size { length (spelling packet.now) ≤ MOST_PACKET }
+    ensures size { length (spelling (Packet.Data from to seq message.now)) ≤ MOST_PACKET }
     // What is written is read again.
-    ensures again { packet_of (spelling packet.now) ≡ Ok packet.now }
+    ensures again { packet_of (spelling (Packet.Data from to seq message.now)) ≡ Ok (Packet.Data from to seq message.now) }
 {
     let mut bytes = Buffer::new();
-    put_packet(&mut bytes, packet);
+    put_data(&mut bytes, from, to, seq, message);
+    extend_from_slice(out, &bytes)
+}
+
+/// Puts the one spelling of an acknowledgement, of 8 bytes, at the end of a buffer, or leaves the buffer as it was.
+pub fn encode_ack(from: u8, to: u8, count: u32, out: &mut Vec<u8>) -> Result<(), NoMemory>
+    requires route { IsRoute from to }
+    ensures ok { OnOk result (out.new.items ≡ out.old.items ++ spelling (Packet.Ack from to count)) }
+    ensures err { OnErr result (out.new.items ≡ out.old.items) }
+    ensures size { length (spelling (Packet.Ack from to count)) ≤ MOST_PACKET }
+    // What is written is read again.
+    ensures again { packet_of (spelling (Packet.Ack from to count)) ≡ Ok (Packet.Ack from to count) }
+{
+    let mut bytes = Buffer::new();
+    put_ack(&mut bytes, from, to, count);
     extend_from_slice(out, &bytes)
 }

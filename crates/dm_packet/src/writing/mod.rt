@@ -2,7 +2,7 @@
 ghost use Rattle.std.specs.Prelude.{◌≡◌, ◌≤◌, [], length};
 ghost use Rattle.dm_message.specs.Kinds.{kind_of};
 ghost use Rattle.dm_message.specs.Lawful.{IsLawfulMessage};
-ghost use Rattle.dm_packet.specs.Lawful.{IsLawfulPacket};
+ghost use Rattle.dm_packet.specs.declared.Packet.{Packet};
 ghost use Rattle.dm_packet.specs.Packets.{head, head_of, id as id_field, opening, packet_kind, spell_message, spelling};
 ghost use Rattle.dm_packet.specs.Whats.{message_kind};
 ghost use Rattle.dm_packet.specs.Widths.{FitsAddr, FitsId, FitsMessage, FitsPacket};
@@ -12,7 +12,6 @@ pub mod fields;
 mod kinds;
 mod lists;
 
-use crate::Packet;
 use crate::front::PacketKind;
 use arrayvec::ArrayVec;
 use dm_message::{Message, MsgId, What};
@@ -87,28 +86,26 @@ fn put_opening(out: &mut Buffer, kind: PacketKind, from: u8, to: u8)
     put_byte(out, to);
 }
 
-/// A packet, where nothing was put yet.
+/// A message's packet, where nothing was put yet.
 #[tactic(auto, unfolding(crate::specs::Packets::spelling))]
-pub fn put_packet(out: &mut Buffer, packet: &Packet)
+pub fn put_data(out: &mut Buffer, from: u8, to: u8, seq: u32, message: &Message)
     requires empty { out.old.items ≡ [] }
-    requires lawful { IsLawfulPacket packet.now }
-    ensures put { Puts out.old out.new (spelling packet.now) }
-    ensures fits { FitsPacket packet.now }
+    requires lawful { IsLawfulMessage message.now }
+    ensures put { Puts out.old out.new (spelling (Packet.Data from to seq message.now)) }
+    ensures fits { FitsPacket (Packet.Data from to seq message.now) }
 {
-    match packet {
-        Packet::Data {
-            from,
-            to,
-            seq,
-            message,
-        } => {
-            put_opening(out, PacketKind::Data, *from, *to);
-            put_u32(out, *seq);
-            put_message(out, message);
-        }
-        Packet::Ack { from, to, count } => {
-            put_opening(out, PacketKind::Ack, *from, *to);
-            put_u32(out, *count);
-        }
-    }
+    put_opening(out, PacketKind::Data, from, to);
+    put_u32(out, seq);
+    put_message(out, message);
+}
+
+/// An acknowledgement, where nothing was put yet.
+#[tactic(auto, unfolding(crate::specs::Packets::spelling))]
+pub fn put_ack(out: &mut Buffer, from: u8, to: u8, count: u32)
+    requires empty { out.old.items ≡ [] }
+    ensures put { Puts out.old out.new (spelling (Packet.Ack from to count)) }
+    ensures fits { FitsPacket (Packet.Ack from to count) }
+{
+    put_opening(out, PacketKind::Ack, from, to);
+    put_u32(out, count);
 }

@@ -1,5 +1,5 @@
 -- The process that is here is taken out, and its predecessors are told behind its queue.
-use Rattle.dm_kernel.proofs.Names.{◌≡◌, ◌∙◌, ℕ, ◌*◌, ◌/◌, ◌++◌, List, length, ap, sym, refl, subst, arith, Some, OnOk, at, process_in, has, kernel_state, Process, Message, Part, Taken, IsIn, bind, here_of, process_of, after_end, ends_with, drops, blocks_of, with_released}
+use Rattle.dm_kernel.proofs.Names.{◌≡◌, ◌∙◌, ℕ, ◌*◌, ◌/◌, ◌++◌, List, length, ap, sym, refl, subst, arith, Some, OnOk, at, process_in, has, kernel_state, Process, Message, IsIn, bind, here_of, process_of, after_end, ends_with, drops, blocks_of, with_released}
 use Rattle.dm_kernel.proofs.Burying.{is_without, parts_after, state_after}
 use Rattle.dm_kernel.proofs.Standing.{process_by}
 use Rattle.dm_kernel.proofs.kernel.Kernel.end_behind.Goals as goal
@@ -39,6 +39,6 @@ returns-clause-parts c = λ x e.
     ∙ sym c.into_process.ensures
     ∙ c.unwrap-process.ensures
     in
-    subst (λ (z : Process). OnOk c.tell_end.result (c.tell_end.new.parts.items ≡ c.args.parts.now.items ++ ends_with s p z)) (same_one y x (sym there ∙ e))
-    (parts_after c.tell_end.result s _ p y (has c.predecessors-predecessors.result) c.args.parts.now.items c.drop_all.new.parts.items c.tell_end.new.parts.items c.predecessors-predecessors.ensures refl refl
-    (c.in_ok-drop_all.ensures ∙ ap (λ (ms : List Message). c.args.parts.now.items ++ drops ms) c.into_queue.ensures) c.tell_end.ensures.parts)
+    subst (λ (z : Process). OnOk c.tell_end.result (c.tell_end.new.parts ≡ c.args.parts.now ++ ends_with s p z)) (same_one y x (sym there ∙ e))
+    (parts_after c.tell_end.result s _ p y (has c.predecessors-predecessors.result) c.args.parts.now c.drop_all.new.parts c.tell_end.new.parts c.predecessors-predecessors.ensures refl refl
+    (c.in_ok-drop_all.ensures ∙ ap (λ (ms : List Message). c.args.parts.now ++ drops ms) c.into_queue.ensures) c.tell_end.ensures.parts)

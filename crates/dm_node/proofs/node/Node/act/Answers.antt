@@ -1,31 +1,34 @@
-use Rattle.dm_node.proofs.Names.{◌<◌, ◌∷◌, sym, ap, subst, ◌∙◌, Ok, into_iter_items, All-rest, IsLawfulPart, acts, routes, Answers, node_state}
-use Rattle.dm_node.proofs.Parts.{all_done, gave_streams, line_said, message_routed, routed_counts}
+use Rattle.dm_node.proofs.Names.{◌∷◌, sym, ap, subst, ◌∙◌, Ok, All, All-head, All-rest, IsLawfulPart, acts, routes, Node, Answers, node_state}
+use Rattle.dm_kernel.specs.declared.part.Part.TheVariants.{Routes}
+use Rattle.dm_node.proofs.Parts.{all_done, gave_streams, line_said, message_routed}
+use Rattle.dm_node.proofs.Staying.{gave_may, routes_may}
 use Rattle.dm_node.proofs.node.Node.act.Goals as goal
 
 pub route-requires-clause-streams : goal.route-requires-clause-streams
 route-requires-clause-streams c = c.loop-part.invariant.streams
 
-pub route-requires-clause-home : goal.route-requires-clause-home
-route-requires-clause-home c = c.loop-part.invariant.home
+pub route-requires-clause-may : goal.route-requires-clause-may
+route-requires-clause-may c = c.loop-part.invariant.may
 
-pub route-requires-clause-numbers : goal.route-requires-clause-numbers
-route-requires-clause-numbers c = subst (λ k. k < 4294967296) (sym c.loop-part.invariant.numbers) c.requires.numbers
+pub route-requires-clause-lawful : goal.route-requires-clause-lawful
+route-requires-clause-lawful c =
+    let here = c.loop-part in
+    let left = c.pop.new.self in
+    let is = c.in-Some.ensures ∙ ap (λ p. p ∷ left) c.in-Routes.is in
+    All-head IsLawfulPart (Routes c.in-Routes.message) left (subst (All IsLawfulPart) is here.invariant.fit)
 
 pub loop-part-preserved : goal.loop-part-preserved
 loop-part-preserved c =
     let here = c.loop-part in
     let n = node_state here.self in
-    let left = into_iter_items c.next.new.self in
+    let left = c.pop.new.self in
     let gave = c.in_ok-route-in-Routes.ensures in
-    let is = c.in-Some.ensures.steps.0 ∙ ap (λ p. p ∷ left) c.in-Routes.is in
-    let counts = routed_counts n c.route.new.self here.outs.items c.route.new.outs.items c.in-Routes.message here.invariant.home gave in
+    let is = c.in-Some.ensures ∙ ap (λ p. p ∷ left) c.in-Routes.is in
+    let lawful = All-head IsLawfulPart (Routes c.in-Routes.message) left (subst (All IsLawfulPart) is here.invariant.fit) in
     record {
-      can_next = tt;
-      finite = tt;
-      fit = All-rest IsLawfulPart c.in-Some.part left (into_iter_items here.part-iterator) c.in-Some.ensures.steps.0 here.invariant.fit;
+      fit = All-rest IsLawfulPart c.in-Some.part left here.parts c.in-Some.ensures here.invariant.fit;
       streams = gave_streams (routes n c.in-Routes.message) c.route.new.self here.outs.items c.route.new.outs.items gave;
-      home = counts.home;
-      numbers = counts.numbers ∙ here.invariant.numbers;
+      may = gave_may (routes n c.in-Routes.message) c.route.new.self here.outs.items c.route.new.outs.items gave (routes_may n c.in-Routes.message lawful here.invariant.may);
       rest = λ r after new g.
           here.invariant.rest r after new
           (subst (λ ps. Answers r after here.outs.items new (acts n ps)) (sym is)
@@ -36,15 +39,12 @@ pub loop-part-preserved-in-Continue-1 : goal.loop-part-preserved-in-Continue-1
 loop-part-preserved-in-Continue-1 c =
     let here = c.loop-part in
     let n = node_state here.self in
-    let left = into_iter_items c.next.new.self in
-    let is = c.in-Some.ensures.steps.0 ∙ ap (λ p. p ∷ left) c.in-Says.is in
+    let left = c.pop.new.self in
+    let is = c.in-Some.ensures ∙ ap (λ p. p ∷ left) c.in-Says.is in
     record {
-      can_next = tt;
-      finite = tt;
-      fit = All-rest IsLawfulPart c.in-Some.part left (into_iter_items here.part-iterator) c.in-Some.ensures.steps.0 here.invariant.fit;
+      fit = All-rest IsLawfulPart c.in-Some.part left here.parts c.in-Some.ensures here.invariant.fit;
       streams = here.invariant.streams;
-      home = here.invariant.home;
-      numbers = here.invariant.numbers;
+      may = here.invariant.may;
       rest = λ r after new g.
           here.invariant.rest r after new
           (subst (λ ps. Answers r after here.outs.items new (acts n ps)) (sym is)
@@ -54,5 +54,6 @@ loop-part-preserved-in-Continue-1 c =
 pub returns : goal.returns
 returns c =
     let here = c.loop-part in
-    let left = here.part-iterator in
-    here.invariant.rest (Ok tt) here.self here.outs.items (all_done here.self here.outs.items (into_iter_items left) (sym left.rest.ok.0 ∙ c.in-None.ensures.steps.0) here.invariant.streams)
+    let kept : Node = record here.self { parts = c.pop.new.self } in
+    here.invariant.rest (Ok tt) kept here.outs.items
+    (all_done kept here.outs.items here.parts c.in_default.ensures.0 (record { senders = here.invariant.streams.senders; receivers = here.invariant.streams.receivers }))
