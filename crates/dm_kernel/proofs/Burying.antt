@@ -1,11 +1,12 @@
 -- Where a process has ended, its predecessors are told, one after the other.
-use Rattle.dm_kernel.proofs.Names.{◌≡◌, ◌∙◌, ℕ, zero, suc, ◌+◌, ◌-◌, ◌<◌, ◌≤◌, Bool, true, false, List, [], ◌∷◌, ◌++◌, length, refl, ap, sym, subst, arith, Some, None, Option, Pid, pid_of, kernel_at, Message, Process, Taken, with_record}
-use Rattle.dm_kernel.proofs.Names.{KernelKnown, KernelState, Kernel, Part, Says, Routes, IsIn, Meets, kernel_state, has, own, with_sent, forgets, without_record, without_preds, without_process, without, Why, blocks_of, buries, preds_of}
-use Rattle.dm_kernel.proofs.Names.{with_told, ends_with, after_end, drops, most, append_assoc, append-nil, Result, Ok, Err, OnOk, cond, filter, range_with_len, with_released, machines_with}
+use Rattle.dm_kernel.proofs.Names.{◌≡◌, ◌∙◌, ℕ, suc, ◌+◌, ◌-◌, ◌<◌, ◌≤◌, Bool, true, false, List, [], ◌∷◌, ◌++◌, length, refl, ap, sym, subst, arith, Some, Option, Pid, pid_of, kernel_at, Message, Process, Taken}
+use Rattle.dm_kernel.proofs.Names.{KernelKnown, KernelState, Kernel, Part, Says, Routes, Answers, IsIn, MeetsSome, kernel_state, own, with_sent, forgets, without_record, without_preds, without_process, without, Why, blocks_of, buries, preds_of}
+use Rattle.dm_kernel.proofs.Names.{with_told, ends_with, after_end, drops, most, append_assoc, append-nil, Result, Ok, Err, OnOk, cond, filter, range_with_len, with_released, machines_with, NoMemory, IsHere, process_in, bind, turned, hears_bury}
 use Rattle.dm_message.specs.declared.What.TheVariants as what
 use Rattle.dm_line.specs.declared.line.Line.TheVariants as line
 use Rattle.dm_kernel.proofs.Opening.{is_state}
 use Rattle.dm_kernel.proofs.Receiving.{is_in}
+use Rattle.dm_kernel.proofs.Standing.{each_process}
 
 -- the machines that are still to be told, from this one on
 unfoldable left : (ℕ → Bool) → ℕ → List ℕ
@@ -142,19 +143,21 @@ pub preds_are : (s : KernelState) (p : Pid) (f : ℕ → Bool) → ((n : ℕ) �
 preds_are s p f e = ap (λ (g : ℕ → Bool). machines_with g) (λ i n. e n i)
 
 -- a process that has ended is forgotten, and its predecessors are told
-pub hears : (s mid : KernelState) (m : Message) (p : Pid) (f : ℕ → Bool) (count : ℕ) (k : Kernel) (said parts : List Part) → ((n : ℕ) → f n ≡ s.preds p n) → mid ≡ forgets s p → IsIn k (with_told mid (machines_with f))
-    → count ≡ length (machines_with f) → said ≡ Says (line.Buried m.id count) ∷ [] → parts ≡ said ++ buries mid p (machines_with f)
-    → Meets k parts (record { state = with_told (forgets s p) (preds_of s p); parts = Says (line.Buried m.id (length (preds_of s p))) ∷ buries s p (preds_of s p) })
-hears s mid m p f count k said parts e forgot state many first told =
+pub hears : (r : Result Unit NoMemory) (s mid : KernelState) (m : Message) (p : Pid) (f : ℕ → Bool) (count : ℕ) (k : Kernel) (old said parts : List Part) → ((n : ℕ) → f n ≡ s.preds p n) → mid ≡ forgets s p → OnOk r (IsIn k (with_told mid (machines_with f)))
+    → count ≡ length (machines_with f) → said ≡ old ++ Says (line.Buried m.id count) ∷ [] → OnOk r (parts ≡ said ++ buries mid p (machines_with f))
+    → Answers r k old parts (hears_bury s m p)
+hears (Err none) s mid m p f count k old said parts e forgot state many first told = tt
+hears (Ok done) s mid m p f count k old said parts e forgot state many first told =
     let all : machines_with f ≡ preds_of s p = preds_are s p f e in
     let there : buries mid p (preds_of s p) ≡ buries s p (preds_of s p) = same_buries mid s p (preds_of s p) (ap (λ (t : KernelState). t.here) forgot) (ap (λ (t : KernelState). t.sent) forgot) in
     record {
       state = is_in k (with_told (forgets s p) (preds_of s p)) (is_state k (with_told mid (machines_with f)) state ∙ (λ i. with_told (forgot i) (all i)));
       parts =
           told
-          ∙ ap (λ (ps : List Part). ps ++ buries mid p (machines_with f)) (first ∙ ap (λ (n : ℕ). Says (line.Buried m.id n) ∷ []) many)
-          ∙ ap (λ (ms : List ℕ). Says (line.Buried m.id (length ms)) ∷ buries mid p ms) all
-          ∙ ap (λ (ps : List Part). Says (line.Buried m.id (length (preds_of s p))) ∷ ps) there;
+          ∙ ap (λ (ps : List Part). ps ++ buries mid p (machines_with f)) (first ∙ ap (λ (n : ℕ). old ++ Says (line.Buried m.id n) ∷ []) many)
+          ∙ append_assoc old (Says (line.Buried m.id (length (machines_with f))) ∷ []) (buries mid p (machines_with f))
+          ∙ ap (λ (ms : List ℕ). old ++ Says (line.Buried m.id (length ms)) ∷ buries mid p ms) all
+          ∙ ap (λ (ps : List Part). old ++ Says (line.Buried m.id (length (preds_of s p))) ∷ ps) there;
     }
 
 -- what is left of a machine that a process has left at its end
@@ -181,3 +184,15 @@ parts_after (Ok done) s mid p x f old dropped new e here sent queue told =
     ∙ ap (λ (ms : List ℕ). dropped ++ buries mid p ms) all
     ∙ (λ i. queue i ++ there i)
     ∙ append_assoc old (drops x.queue) (buries s p (preds_of s p))
+
+-- a process ends behind what is said first
+pub ended : (P : Process → Type 0) (r : Result Unit NoMemory) (k : Kernel) (s : KernelState) (p : Pid) (y : Why) (o : Option KernelKnown) (first old mid new : List Part) → IsHere P o → mid ≡ old ++ first
+    → ((x : Process) → process_in o ≡ Some x → OnOk r (IsIn k (after_end s p x y))) → ((x : Process) → process_in o ≡ Some x → OnOk r (new ≡ mid ++ ends_with s p x))
+    → Answers r k old new (bind (process_in o) (λ x. turned (after_end s p x y) (first ++ ends_with s p x)))
+ended P (Err none) k s p y o first old mid new here said state parts = tt
+ended P (Ok done) k s p y o first old mid new here said state parts =
+    each_process (λ (q : Option KernelKnown).
+    ((x : Process) → process_in q ≡ Some x → IsIn k (after_end s p x y)) → ((x : Process) → process_in q ≡ Some x → new ≡ mid ++ ends_with s p x)
+    → MeetsSome k old new (bind (process_in q) (λ x. turned (after_end s p x y) (first ++ ends_with s p x)))) P o here
+    (λ x mine stands told. record { state = stands x refl; parts = told x refl ∙ ap (λ (ps : List Part). ps ++ ends_with s p x) said ∙ append_assoc old first (ends_with s p x) })
+    state parts

@@ -1,6 +1,6 @@
 -- Where all of a process has come, it isn't called off, and stands as it stood.
-use Rattle.dm_kernel.proofs.Names.{◌≡◌, ◌∙◌, Bool, true, false, if◌then◌else◌, [], ◌∷◌, refl, ap, sym, subst, Some, None, IfOk, Ok, Err, Option, Pid, pid_eq, pid_eq_same, Here, Frozen, Incoming, Forward, with_record, Arrival, KernelKnown}
-use Rattle.dm_kernel.proofs.Names.{KernelState, Kernel, Part, Says, Answers, IsIn, MeetsSome, Vec, Global, Result, NoMemory, incoming_of, without_record, is_whole, calls_arriving_off, is_not_called, turns_back}
+use Rattle.dm_kernel.proofs.Names.{◌≡◌, ◌∙◌, Bool, true, false, if◌then◌else◌, List, [], ◌∷◌, ◌++◌, refl, ap, sym, subst, Some, None, OnOk, Ok, Err, Option, Pid, pid_eq, pid_eq_same, Here, Frozen, Incoming, Forward, with_record, Arrival, KernelKnown}
+use Rattle.dm_kernel.proofs.Names.{KernelState, Kernel, Part, Says, Answers, IsIn, MeetsSome, Result, NoMemory, incoming_of, without_record, is_whole, calls_arriving_off, is_not_called, turns_back}
 use Rattle.dm_line.specs.declared.line.Line.TheVariants as line
 
 record_of : (o : Option KernelKnown) (a : Arrival) → incoming_of o ≡ Some a → o ≡ Some (Incoming a)
@@ -23,9 +23,9 @@ put_back old mid new p a b before same out back q =
     (λ is. ap old (sym (pid_eq_same p q is)) ∙ at_p)
 
 -- nothing else is said then
-pub not_called : (r : Result (Vec Part Global) NoMemory) (k : Kernel) (s : KernelState) (p : Pid) (a : Arrival) (o : Option Arrival) → o ≡ Some a → is_whole a.wanted ≡ true
-    → IfOk r (λ parts. parts.items ≡ Says (line.NoCall p) ∷ []) → IsIn k s → Answers r k (calls_arriving_off s p o)
-not_called (Err e) k s p a o is whole said stands = tt
-not_called (Ok parts) k s p a o is whole said stands =
-    subst (λ (x : Option Arrival). MeetsSome k parts.items (calls_arriving_off s p x)) (sym is)
-    (subst (λ (b : Bool). MeetsSome k parts.items (if b then is_not_called s p else turns_back s p a)) (sym whole) (record { state = stands; parts = said }))
+pub not_called : (r : Result Unit NoMemory) (k : Kernel) (old new : List Part) (s : KernelState) (p : Pid) (a : Arrival) (o : Option Arrival) → o ≡ Some a → is_whole a.wanted ≡ true
+    → OnOk r (new ≡ old ++ Says (line.NoCall p) ∷ []) → IsIn k s → Answers r k old new (calls_arriving_off s p o)
+not_called (Err e) k old new s p a o is whole said stands = tt
+not_called (Ok done) k old new s p a o is whole said stands =
+    subst (λ (x : Option Arrival). MeetsSome k old new (calls_arriving_off s p x)) (sym is)
+    (subst (λ (b : Bool). MeetsSome k old new (if b then is_not_called s p else turns_back s p a)) (sym whole) (record { state = stands; parts = said }))

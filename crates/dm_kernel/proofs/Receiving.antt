@@ -1,5 +1,5 @@
 -- What taking a message comes to, from what the end of the receive gives.
-use Rattle.dm_kernel.proofs.Names.{◌≡◌, ◌∙◌, ℕ, List, [], ◌∷◌, ap, map, remove, slice_get, subst, sym, Some, None, IfOk, Vec, Global, Option, Ok, Err, NoMemory, Link, Pid, plain_link, Message, What, first_on, without_first_on, Takes}
+use Rattle.dm_kernel.proofs.Names.{◌≡◌, ◌∙◌, ℕ, List, [], ◌∷◌, ◌++◌, ap, map, remove, slice_get, subst, sym, Some, None, OnOk, Option, Ok, Err, NoMemory, Link, Pid, plain_link, Message, What, first_on, without_first_on, Takes}
 use Rattle.dm_kernel.proofs.Names.{Process, Status, Reply, plain_process, receive_refusals, first_failed, Completion, completes, completes_unless, completion, Kernel, Part, Answers, IsIn, MeetsSome, kernel_state, completed_label, received}
 use Rattle.dm_kernel.proofs.Names.{received_by, receives, KernelState, Turned, says, turned, with_here}
 use Rattle.std.specs.Prelude.{Result}
@@ -57,7 +57,7 @@ is_in k s e =
       over = ap (λ (t : KernelState). t.over) e;
     }
 
-pub says_one : (k : Kernel) (s : KernelState) (part : Part) (r : Result (Vec Part Global) NoMemory) (o : Option Turned) → turned s (part ∷ []) ≡ o → kernel_state k ≡ s → IfOk r (λ parts. parts.items ≡ part ∷ [])
-    → Answers r k o
-says_one k s part (Ok parts) o e same h = subst (MeetsSome k parts.items) e (record { state = is_in k s same; parts = h })
-says_one k s part (Err none) o e same h = tt
+pub says_one : (k : Kernel) (s : KernelState) (part : Part) (r : Result Unit NoMemory) (old new : List Part) (o : Option Turned) → turned s (part ∷ []) ≡ o → kernel_state k ≡ s → OnOk r (new ≡ old ++ part ∷ [])
+    → Answers r k old new o
+says_one k s part (Ok done) old new o e same h = subst (MeetsSome k old new) e (record { state = is_in k s same; parts = h })
+says_one k s part (Err none) old new o e same h = tt

@@ -1,8 +1,7 @@
 -- What is here, by what it is: a process, the switchboard or the manager.
 use Rattle.dm_kernel.proofs.Names.{◌≡◌, ◌∙◌, ℕ, ◌≤◌, ◌<◌, length, refl, ap, sym, subst, Some, None, IsSome, rules, arith, Option, Process, Board, Managing, Resident, IsLawfulProcess, Here, Frozen, Incoming, Forward, here_of, bind, process_of}
-use Rattle.dm_kernel.proofs.Names.{board_of, manager_of, KernelKnown, KernelState, Kernel, Turned, Answers, Result, Vec, Part, Global, NoMemory, Message, What, IsHere, IsSuch, MayFreeze, MayAct, FitsHere, FitsBoard, FitsManager, most}
-use Rattle.dm_kernel.proofs.Names.{process_in, board_in, manager_in, here_handles, board_handles, board_took, manager_handles, manager_took, told_board, told_manager, migrates, asked_to_move, board_follows, manager_follows, state_of, Addr, List, [], ◌++◌, ◌∷◌, tells_asker, tells_of, Bool, true, false, ◌==◌, if◌then◌else◌, IfOk, Ok, Err, IsIn, says, turned, with_frozen, with_known, with_sent, freezing, asker_of, kernel_state, routes}
-use Rattle.dm_message.specs.declared.Outcome.TheVariants as ends
+use Rattle.dm_kernel.proofs.Names.{board_of, manager_of, KernelKnown, KernelState, Kernel, Answers, Result, Part, NoMemory, Message, IsHere, IsSuch, MayFreeze, FitsHere, most}
+use Rattle.dm_kernel.proofs.Names.{process_in, board_in, manager_in, board_took, manager_took, state_of, List, ◌++◌, ◌∷◌, OnOk, Ok, Err, IsIn, says, turned, with_known, kernel_state, routes}
 use Rattle.dm_onekernel.specs.declared.label.Label.TheVariants as label
 use Rattle.dm_resident.specs.declared.Resident.TheVariants as resident
 use Rattle.dm_message.specs.declared.What.TheVariants as what
@@ -72,25 +71,25 @@ process_asked s m machine o is h =
     each_process (λ o. IsHere (λ x. MayFreeze s (resident.Process x)) o) (Handles s m) o h (λ x handles. process_may s m x (subst (FitsHere s m x) is handles.fits) handles)
 
 -- a process that is asked to move to where it is, and to another machine
-answers_one : (r : Result (Vec Part Global) NoMemory) (n : Kernel) (s : KernelState) (parts : List Part) → IfOk r (λ said. said.items ≡ parts) → IsIn n s → Answers r n (turned s parts)
-answers_one (Ok said) n s parts h stands = record { state = stands; parts = h }
-answers_one (Err e) n s parts h stands = tt
+answers_one : (r : Result Unit NoMemory) (n : Kernel) (s : KernelState) (old new parts : List Part) → OnOk r (new ≡ old ++ parts) → IsIn n s → Answers r n old new (turned s parts)
+answers_one (Ok done) n s old new parts h stands = record { state = stands; parts = h }
+answers_one (Err e) n s old new parts h stands = tt
 
 -- a server that took a message stands as it is then
-pub board_has_taken : (r : Result (Vec Part Global) NoMemory) (n : Kernel) (s : KernelState) (m : Message) (x new : Board) (t : Took) (o : Option Board) → o ≡ Some x → board.takes s.here x m.what ≡ Some (record { board = new; took = t })
-    → kernel_state n ≡ with_known s m.to.pid (Here (resident.Board new)) → IfOk r (λ said. said.items ≡ says (label.Took m.id) ∷ routes t.answer) → Answers r n (bind o (λ v. board_took s m v (board.takes s.here v m.what)))
-board_has_taken r n s m x new t o is exact same said =
+pub board_has_taken : (r : Result Unit NoMemory) (n : Kernel) (parts after : List Part) (s : KernelState) (m : Message) (x new : Board) (t : Took) (o : Option Board) → o ≡ Some x → board.takes s.here x m.what ≡ Some (record { board = new; took = t })
+    → kernel_state n ≡ with_known s m.to.pid (Here (resident.Board new)) → OnOk r (after ≡ parts ++ says (label.Took m.id) ∷ routes t.answer) → Answers r n parts after (bind o (λ v. board_took s m v (board.takes s.here v m.what)))
+board_has_taken r n parts after s m x new t o is exact same said =
     let next : KernelState = with_known s m.to.pid (Here (resident.Board new)) in
     let e : turned next (says (label.Took m.id) ∷ routes t.answer) ≡ bind o (λ v. board_took s m v (board.takes s.here v m.what)) =
     sym (ap (λ (q : Option board.Taken). board_took s m x q) exact) ∙ sym (ap (λ (q : Option Board). bind q (λ v. board_took s m v (board.takes s.here v m.what))) is)
     in
-    subst (Answers r n) e (answers_one r n next (says (label.Took m.id) ∷ routes t.answer) said (is_in n next same))
+    subst (Answers r n parts after) e (answers_one r n next parts after (says (label.Took m.id) ∷ routes t.answer) said (is_in n next same))
 
-pub manager_has_taken : (r : Result (Vec Part Global) NoMemory) (n : Kernel) (s : KernelState) (m : Message) (x new : Managing) (sent : Option Message) (o : Option Managing) → o ≡ Some x → manage.takes s.here x m.id.n m.what ≡ Some (record { manager = new; message = sent })
-    → kernel_state n ≡ with_known s m.to.pid (Here (resident.Manager new)) → IfOk r (λ said. said.items ≡ says (label.Took m.id) ∷ routes sent) → Answers r n (bind o (λ v. manager_took s m v (manage.takes s.here v m.id.n m.what)))
-manager_has_taken r n s m x new sent o is exact same said =
+pub manager_has_taken : (r : Result Unit NoMemory) (n : Kernel) (parts after : List Part) (s : KernelState) (m : Message) (x new : Managing) (sent : Option Message) (o : Option Managing) → o ≡ Some x → manage.takes s.here x m.id.n m.what ≡ Some (record { manager = new; message = sent })
+    → kernel_state n ≡ with_known s m.to.pid (Here (resident.Manager new)) → OnOk r (after ≡ parts ++ says (label.Took m.id) ∷ routes sent) → Answers r n parts after (bind o (λ v. manager_took s m v (manage.takes s.here v m.id.n m.what)))
+manager_has_taken r n parts after s m x new sent o is exact same said =
     let next : KernelState = with_known s m.to.pid (Here (resident.Manager new)) in
     let e : turned next (says (label.Took m.id) ∷ routes sent) ≡ bind o (λ v. manager_took s m v (manage.takes s.here v m.id.n m.what)) =
     sym (ap (λ (q : Option manage.Taken). manager_took s m x q) exact) ∙ sym (ap (λ (q : Option Managing). bind q (λ v. manager_took s m v (manage.takes s.here v m.id.n m.what))) is)
     in
-    subst (Answers r n) e (answers_one r n next (says (label.Took m.id) ∷ routes sent) said (is_in n next same))
+    subst (Answers r n parts after) e (answers_one r n next parts after (says (label.Took m.id) ∷ routes sent) said (is_in n next same))

@@ -1,6 +1,5 @@
 -- The kernel of the code, over the plain one.
-use Rattle.std.specs.Prelude.{◌≡◌, ℕ, ⊤, List, Vec}
-use Rattle.std.specs.declared.alloc.Global.{Global}
+use Rattle.std.specs.Prelude.{◌≡◌, ◌++◌, ℕ, ⊤, List}
 use Rattle.std.specs.declared.option.Option.{Option}
 use Rattle.std.specs.declared.option.Option.TheVariants.{None, Some}
 use Rattle.std.specs.declared.result.Result.{Result}
@@ -25,16 +24,16 @@ pub record IsIn (k : Kernel) (s : KernelState) : Type 0 where
   pub room : k.room ≡ s.room
   pub over : k.over ≡ s.over
 
--- the kernel and the parts are these
-pub record Meets (k : Kernel) (said : List Part) (t : Turned) : Type 0 where
+-- the kernel is this, and the parts are these, behind those that there were
+pub record Meets (k : Kernel) (old new : List Part) (t : Turned) : Type 0 where
   pub state : IsIn k t.state
-  pub parts : said ≡ t.parts
+  pub parts : new ≡ old ++ t.parts
 
-abbrev pub MeetsSome : Kernel → List Part → Option Turned → Type 0
-MeetsSome k said None = ⊥
-MeetsSome k said (Some t) = Meets k said t
+abbrev pub MeetsSome : Kernel → List Part → List Part → Option Turned → Type 0
+MeetsSome k old new None = ⊥
+MeetsSome k old new (Some t) = Meets k old new t
 
 -- the code does this, or has no memory
-abbrev pub Answers : Result (Vec Part Global) NoMemory → Kernel → Option Turned → Type 0
-Answers (Ok parts) k t = MeetsSome k parts.items t
-Answers (Err e) k t = ⊤
+abbrev pub Answers : Result Unit NoMemory → Kernel → List Part → List Part → Option Turned → Type 0
+Answers (Ok done) k old new t = MeetsSome k old new t
+Answers (Err e) k old new t = ⊤

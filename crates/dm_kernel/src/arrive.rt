@@ -1,5 +1,5 @@
 //! What a machine's kernel does where a process or a server comes to it.
-ghost use Rattle.std.specs.Prelude.{◌≡◌, ◌<◌, ◌≤◌, ◌++◌, ◌∷◌, [], IsSome, OnOk, Some, true, IfOk, map};
+ghost use Rattle.std.specs.Prelude.{◌≡◌, ◌<◌, ◌≤◌, ◌++◌, ◌∷◌, [], IsSome, OnOk, Some, true, map};
 ghost use Rattle.dm_records.specs.Records.{HasPlace, at, incoming_of, with_record};
 ghost use Rattle.dm_records.specs.declared.record.Record.TheVariants.{Here, Incoming};
 ghost use Rattle.dm_migrate.specs.Arrival.{Arrival, IsNextChunk, with_block, with_chunk};
@@ -12,14 +12,14 @@ ghost use Rattle.dm_kernel.specs.State.{own, preceded, turned, with_known, with_
 ghost use Rattle.dm_line.specs.declared.line.Line.TheVariants as line_;
 ghost use Rattle.dm_line.specs.declared.line.Stage.TheVariants as stage_;
 
-use crate::depart::{route, step};
+use crate::depart::step;
 use crate::kernel::Kernel;
-use crate::part::Part;
+use crate::part::{Part, route, say, say_and_route};
 use crate::ring::join;
 use dm_line::line::{Line, Stage};
 use dm_link::{MACHINES, Pid};
 use dm_lists::put_before;
-use dm_memory::{NoMemory, Parcel, list_of};
+use dm_memory::{NoMemory, Parcel};
 use dm_message::{Message, MsgId, Outcome, What};
 use dm_migrate::{Arriving, Ask, Asked, Wanted, answer_ask};
 use dm_onekernel::Boot;
@@ -36,17 +36,18 @@ impl Kernel {
         boot: &Boot,
         message: &Message,
         ask: Ask,
-    ) -> Result<Vec<Part>, NoMemory>
+        parts: &mut Vec<Part>,
+    ) -> Result<(), NoMemory>
         requires sent { self.old.sent < u32.MAX }
         requires most { ask.blocks ≤ MOST_BLOCKS }
         requires moves { ask.moves < u32.MAX }
         requires source { ask.source ≡ message.now.id.from.home }
         requires from { message.now.id.from.home < MACHINES }
-        ensures { Answers result self.new (answers_ask boot.now (kernel_state self.old) message.now ask.pid ask.blocks ask.moves ask.size ask.asker) }
+        ensures { Answers result self.new parts.old.items parts.new.items (answers_ask boot.now (kernel_state self.old) message.now ask.pid ask.blocks ask.moves ask.size ask.asker) }
     {
         match answer_ask(self.alloc, ask, &mut self.room, boot.format.slots()) {
-            Asked::Accepted(arriving, pull) => self.accept(message, ask.pid, arriving, pull),
-            Asked::Refused(refusal, lacks) => self.refuse(message, ask.pid, refusal, lacks),
+            Asked::Accepted(arriving, pull) => self.accept(message, ask.pid, arriving, pull, parts),
+            Asked::Refused(refusal, lacks) => self.refuse(message, ask.pid, refusal, lacks, parts),
             Asked::NoMemory(e) => Err(e),
         }
     }
@@ -58,19 +59,16 @@ impl Kernel {
         pid: Pid,
         arriving: Arriving,
         pull: What,
-    ) -> Result<Vec<Part>, NoMemory>
+        parts: &mut Vec<Part>,
+    ) -> Result<(), NoMemory>
         requires sent { self.old.sent < u32.MAX }
         requires from { message.now.id.from.home < MACHINES }
-        ensures { Answers result self.new (turned (with_sent (with_known (preceded (kernel_state self.old) pid message.now.id.from.home) pid (Incoming arriving)))
+        ensures { Answers result self.new parts.old.items parts.new.items (turned (with_sent (with_known (preceded (kernel_state self.old) pid message.now.id.from.home) pid (Incoming arriving)))
             (takes_step stage_.Accepted pid ∷ Part.Routes (own (kernel_state self.old) message.now.sender pull) ∷ [])) }
     {
         self.set_known(pid, Record::Incoming(arriving))?;
         self.records.add_predecessor(pid, message.id.from.home);
-        let said = Line::Migration {
-            step: Stage::Accepted,
-            pid,
-        };
-        self.pull(message, said, pull)
+        self.pull(message, step(Stage::Accepted, pid), pull, parts)
     }
 
     /// Refuses a process that asks to come, and says what is free.
@@ -80,9 +78,10 @@ impl Kernel {
         pid: Pid,
         refusal: What,
         lacks: Lacks,
-    ) -> Result<Vec<Part>, NoMemory>
+        parts: &mut Vec<Part>,
+    ) -> Result<(), NoMemory>
         requires { self.old.sent < u32.MAX }
-        ensures { Answers result self.new (turned (with_sent (kernel_state self.old))
+        ensures { Answers result self.new parts.old.items parts.new.items (turned (with_sent (kernel_state self.old))
             (Part.Says (line_.Lacks pid lacks.free_slots lacks.free_blocks) ∷ Part.Routes (own (kernel_state self.old) message.now.sender refusal) ∷ [])) }
     {
         let Lacks {
@@ -95,19 +94,23 @@ impl Kernel {
             free_blocks,
         };
         let refusal = self.send(message.sender, refusal);
-        self.say_and_route(said, refusal)
+        say_and_route(self.alloc, said, refusal, parts)
     }
 
     /// Keeps a message for what comes.
-    pub(crate) fn hold_arriving(&mut self, message: Parcel<Message>) -> Result<Vec<Part>, NoMemory>
+    pub(crate) fn hold_arriving(
+        &mut self,
+        message: Parcel<Message>,
+        parts: &mut Vec<Part>,
+    ) -> Result<(), NoMemory>
         requires { IsSome (incoming_of (at self.old.records message.to.pid)) }
-        ensures { Answers result self.new (bind (incoming_of (at self.old.records message.to.pid)) (λ a. holds_arriving (kernel_state self.old) message a)) }
+        ensures { Answers result self.new parts.old.items parts.new.items (bind (incoming_of (at self.old.records message.to.pid)) (λ a. holds_arriving (kernel_state self.old) message a)) }
     {
         let message = message.into_inner();
         let id = message.id;
         let arriving = self.records.incoming_mut(message.to.pid).unwrap();
         match arriving.hold(message) {
-            Ok(()) => self.say(Line::Held(id)),
+            Ok(()) => say(Line::Held(id), parts),
             Err((_, e)) => Err(e),
         }
     }
@@ -121,19 +124,20 @@ impl Kernel {
         chunk: u32,
         last: bool,
         bytes: &[u8],
-    ) -> Result<Vec<Part>, NoMemory>
+        parts: &mut Vec<Part>,
+    ) -> Result<(), NoMemory>
         requires chunk { is_expected (incoming_of (at self.old.records pid)) message.now.id.from.home ≡ true →
             IsSuch (λ (a : Arrival). IsNextChunk a pid chunk last bytes.now) (incoming_of (at self.old.records pid)) × (self.old.sent < u32.MAX) }
-        ensures { Answers result self.new (if_expected (kernel_state self.old) message.now (incoming_of (at self.old.records pid))
+        ensures { Answers result self.new parts.old.items parts.new.items (if_expected (kernel_state self.old) message.now (incoming_of (at self.old.records pid))
             (λ a. took_piece (kernel_state self.old) message.now pid (Some (with_chunk a chunk last bytes.now)))) }
     {
         if !self.expects(pid, message.id.from.home) {
-            return self.say(Line::Stale(message.id));
+            return say(Line::Stale(message.id), parts);
         }
         let arriving = self.records.incoming_mut(pid).unwrap();
         let pull = arriving.take_chunk(chunk, last, bytes);
         let (blocks, wanted) = (arriving.blocks(), arriving.wanted());
-        self.say_piece(message, pid, blocks, wanted, pull)
+        self.say_piece(message, pid, blocks, wanted, pull, parts)
     }
 
     /// Takes the block that was asked for of the memory of a process that comes, and asks for the next piece; unless the process
@@ -144,19 +148,20 @@ impl Kernel {
         pid: Pid,
         block: u8,
         bytes: &[u8; 256],
-    ) -> Result<Vec<Part>, NoMemory>
+        parts: &mut Vec<Part>,
+    ) -> Result<(), NoMemory>
         requires block { is_expected (incoming_of (at self.old.records pid)) message.now.id.from.home ≡ true →
             IsSuch (λ (a : Arrival). (pid ≡ a.pid) × (a.wanted ≡ Wanted.Block block)) (incoming_of (at self.old.records pid)) × (self.old.sent < u32.MAX) }
-        ensures { Answers result self.new (if_expected (kernel_state self.old) message.now (incoming_of (at self.old.records pid))
+        ensures { Answers result self.new parts.old.items parts.new.items (if_expected (kernel_state self.old) message.now (incoming_of (at self.old.records pid))
             (λ a. took_piece (kernel_state self.old) message.now pid (Some (with_block a block bytes.now)))) }
     {
         if !self.expects(pid, message.id.from.home) {
-            return self.say(Line::Stale(message.id));
+            return say(Line::Stale(message.id), parts);
         }
         let arriving = self.records.incoming_mut(pid).unwrap();
         let pull = arriving.take_block(block, bytes);
         let (blocks, wanted) = (arriving.blocks(), arriving.wanted());
-        self.say_piece(message, pid, blocks, wanted, pull)
+        self.say_piece(message, pid, blocks, wanted, pull, parts)
     }
 
     /// Says what a piece was, by what is asked for after it, and asks who sent it for that. Of a server, which has no blocks, the last
@@ -168,45 +173,15 @@ impl Kernel {
         blocks: u16,
         wanted: Wanted,
         pull: What,
-    ) -> Result<Vec<Part>, NoMemory>
+        parts: &mut Vec<Part>,
+    ) -> Result<(), NoMemory>
         requires { self.old.sent < u32.MAX }
-        ensures { Answers result self.new (turned (with_sent (kernel_state self.old))
+        ensures { Answers result self.new parts.old.items parts.new.items (turned (with_sent (kernel_state self.old))
             (map Part.Says (piece_lines message.now.id pid blocks wanted) ++ Part.Routes (own (kernel_state self.old) message.now.sender pull) ∷ [])) }
     {
-        let mut parts = self.piece_lines(message.id, pid, blocks, wanted)?;
+        say_piece_lines(message.id, pid, blocks, wanted, parts)?;
         let pull = self.send(message.sender, pull);
-        route(self.alloc, pull, &mut parts)?;
-        Ok(parts)
-    }
-
-    /// What is said of a piece, by what is asked for after it.
-    fn piece_lines(
-        &self,
-        id: MsgId,
-        pid: Pid,
-        blocks: u16,
-        wanted: Wanted,
-    ) -> Result<Vec<Part>, NoMemory>
-        ensures { IfOk result (λ parts. parts.items ≡ map Part.Says (piece_lines id pid blocks wanted)) }
-    {
-        match wanted {
-            Wanted::Chunk(_) => self.say(Line::Proto(id)),
-            Wanted::Block(block) => {
-                if block == 0 {
-                    list_of(self.alloc, [step(Stage::StateTaken, pid)])
-                } else {
-                    self.say(Line::Proto(id))
-                }
-            }
-            Wanted::Nothing => {
-                let last = step(Stage::MemoryTaken, pid);
-                if blocks == 0 {
-                    list_of(self.alloc, [step(Stage::StateTaken, pid), last])
-                } else {
-                    list_of(self.alloc, [last])
-                }
-            }
-        }
+        route(self.alloc, pull, parts)
     }
 
     /// Whether a process or a server is on its way here from a machine.
@@ -220,32 +195,39 @@ impl Kernel {
     }
 
     /// Asks who sent a piece for the next.
-    fn pull(&mut self, message: &Message, said: Line, pull: What) -> Result<Vec<Part>, NoMemory>
+    fn pull(
+        &mut self,
+        message: &Message,
+        said: Line,
+        pull: What,
+        parts: &mut Vec<Part>,
+    ) -> Result<(), NoMemory>
         requires { self.old.sent < u32.MAX }
-        ensures { Answers result self.new (turned (with_sent (kernel_state self.old))
+        ensures { Answers result self.new parts.old.items parts.new.items (turned (with_sent (kernel_state self.old))
             (Part.Says said ∷ Part.Routes (own (kernel_state self.old) message.now.sender pull) ∷ [])) }
     {
         let pull = self.send(message.sender, pull);
-        self.say_and_route(said, pull)
+        say_and_route(self.alloc, said, pull, parts)
     }
 
     /// Lets go on what has come: a process is served, and what was held is handled first; whoever asked for the move is told.
-    pub(crate) fn restart(&mut self, boot: &Boot, pid: Pid) -> Result<Vec<Part>, NoMemory>
+    pub(crate) fn restart(
+        &mut self,
+        boot: &Boot,
+        pid: Pid,
+        parts: &mut Vec<Part>,
+    ) -> Result<(), NoMemory>
         requires { IsSuch (MayRestart boot.now) (incoming_of (at self.old.records pid)) }
-        ensures { Answers result self.new (bind (incoming_of (at self.old.records pid)) (restarts boot.now (kernel_state self.old) pid)) }
+        ensures { Answers result self.new parts.old.items parts.new.items (bind (incoming_of (at self.old.records pid)) (restarts boot.now (kernel_state self.old) pid)) }
     {
         let arriving = self.records.take_incoming(pid);
         let asker = arriving.asker();
         let machines = boot.machines.len() as u8;
         let images = boot.images.len() as u16;
         let going = arriving.restart(machines, images)?;
-        let said = Line::Migration {
-            step: Stage::Restarted,
-            pid,
-        };
-        let parts = self.say_and_tell(said, &going.0, Outcome::Done, asker)?;
-        self.go_on(pid, going)?;
-        Ok(parts)
+        let said = step(Stage::Restarted, pid);
+        self.say_and_tell(said, &going.0, Outcome::Done, asker, parts)?;
+        self.go_on(pid, going)
     }
 
     /// Sets what goes on into its place, a process at the ring's back, and the messages that were held for it before the inbox.
@@ -262,5 +244,33 @@ impl Kernel {
         join(&mut self.ring, pid, &resident)?;
         self.records.put_back(pid, Record::Here(resident));
         put_before(self.alloc, held, &mut self.inbox)
+    }
+}
+
+/// Says what a piece was, by what is asked for after it.
+fn say_piece_lines(
+    id: MsgId,
+    pid: Pid,
+    blocks: u16,
+    wanted: Wanted,
+    parts: &mut Vec<Part>,
+) -> Result<(), NoMemory>
+    ensures { OnOk result (parts.new.items ≡ parts.old.items ++ map Part.Says (piece_lines id pid blocks wanted)) }
+{
+    match wanted {
+        Wanted::Chunk(_) => say(Line::Proto(id), parts),
+        Wanted::Block(block) => {
+            if block == 0 {
+                say(step(Stage::StateTaken, pid), parts)
+            } else {
+                say(Line::Proto(id), parts)
+            }
+        }
+        Wanted::Nothing => {
+            if blocks == 0 {
+                say(step(Stage::StateTaken, pid), parts)?;
+            }
+            say(step(Stage::MemoryTaken, pid), parts)
+        }
     }
 }

@@ -4,29 +4,28 @@ ghost use Rattle.dm_kernel.specs.May.{MayAskMove};
 ghost use Rattle.dm_kernel.specs.Meets.{Answers, kernel_state};
 
 use crate::kernel::Kernel;
-use crate::part::Part;
+use crate::part::{Part, route, say};
 use crate::residents::manager;
 use dm_line::line::Line;
 use dm_link::Pid;
-use dm_memory::{NoMemory, Parcel, list_of};
+use dm_memory::NoMemory;
 use dm_procman::MoveError;
 
 impl Kernel {
-    /// Has the manager, which is here, tell one of its children, the switchboard or itself to move to a machine. Answers what the
-    /// machine says and routes, in order.
-    pub fn ask_move(&mut self, pid: Pid, to: u8) -> Result<Vec<Part>, NoMemory>
+    /// Has the manager, which is here, tell one of its children, the switchboard or itself to move to a machine. What the machine
+    /// says and routes, in order, comes to the end of `parts`.
+    pub fn ask_move(&mut self, pid: Pid, to: u8, parts: &mut Vec<Part>) -> Result<(), NoMemory>
         requires { MayAskMove (kernel_state self.old) }
-        ensures { Answers result self.new (asks_move (kernel_state self.old) pid to) }
+        ensures { Answers result self.new parts.old.items parts.new.items (asks_move (kernel_state self.old) pid to) }
     {
         let id = self.own_id();
         let manager = manager(&self.records).unwrap();
         match manager.ask_move(self.here, pid, to, id) {
             Ok(message) => {
                 self.sent += 1;
-                let message = Parcel::new(self.alloc, message)?;
-                list_of(self.alloc, [Part::Routes(message)])
+                route(self.alloc, message, parts)
             }
-            Err(MoveError::Unknown) => self.say(Line::NoChild(pid)),
+            Err(MoveError::Unknown) => say(Line::NoChild(pid), parts),
         }
     }
 }

@@ -4,9 +4,8 @@ ghost use Rattle.dm_records.specs.Machines.{has, machines_with};
 ghost use Rattle.dm_kernel.specs.Burying.{buries, hears_bury, with_told};
 ghost use Rattle.dm_kernel.specs.Meets.{Answers, IsIn, kernel_state};
 
-use crate::depart::route;
 use crate::kernel::Kernel;
-use crate::part::Part;
+use crate::part::{Part, route, say};
 use dm_line::line::Line;
 use dm_link::{Addr, MACHINES, Pid};
 use dm_memory::NoMemory;
@@ -15,18 +14,25 @@ use dm_records::Machines;
 
 impl Kernel {
     /// Forgets a process that has ended on another machine, and tells its predecessors; where nothing is known of it there are none.
-    pub(crate) fn bury(&mut self, message: &Message, pid: Pid) -> Result<Vec<Part>, NoMemory>
+    pub(crate) fn bury(
+        &mut self,
+        message: &Message,
+        pid: Pid,
+        parts: &mut Vec<Part>,
+    ) -> Result<(), NoMemory>
         requires { self.old.sent + MACHINES ≤ u32.MAX }
-        ensures { Answers result self.new (hears_bury (kernel_state self.old) message.now pid) }
+        ensures { Answers result self.new parts.old.items parts.new.items (hears_bury (kernel_state self.old) message.now pid) }
     {
         let predecessors = self.records.predecessors(pid);
         self.records.remove(pid);
-        let mut parts = self.say(Line::Buried {
-            id: message.id,
-            count: u32::from(predecessors.count()),
-        })?;
-        self.tell_end(pid, predecessors, &mut parts)?;
-        Ok(parts)
+        say(
+            Line::Buried {
+                id: message.id,
+                count: u32::from(predecessors.count()),
+            },
+            parts,
+        )?;
+        self.tell_end(pid, predecessors, parts)
     }
 
     /// Tells the kernels of some machines that a process has ended, behind what is said so far.

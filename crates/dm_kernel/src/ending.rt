@@ -11,27 +11,31 @@ ghost use Rattle.dm_kernel.specs.Burying.{after_end, ends_with};
 ghost use Rattle.dm_kernel.specs.State.{drops, process_in};
 
 use crate::kernel::Kernel;
-use crate::part::Part;
+use crate::part::{Part, say};
 use crate::ring::remove;
 use dm_line::line::Line;
 use dm_link::Pid;
 use dm_lists::Parcels;
-use dm_memory::{NoMemory, list_of, push};
+use dm_memory::NoMemory;
 use dm_message::Message;
 use dm_onekernel::{Label, Why};
 use dm_process::Process;
 
 impl Kernel {
     /// Ends a process that has executed so many instructions.
-    pub(crate) fn end(&mut self, pid: Pid, count: u32, why: Why) -> Result<Vec<Part>, NoMemory>
+    pub(crate) fn end(
+        &mut self,
+        pid: Pid,
+        count: u32,
+        why: Why,
+        parts: &mut Vec<Part>,
+    ) -> Result<(), NoMemory>
         requires { IsHere (HasPlace (kernel_state self.old)) (at self.old.records pid) }
-        ensures { Answers result self.new (bind (process_in (at self.old.records pid)) (λ x. ends (kernel_state self.old) pid count x why)) }
+        ensures { Answers result self.new parts.old.items parts.new.items (bind (process_in (at self.old.records pid)) (λ x. ends (kernel_state self.old) pid count x why)) }
     {
-        let ran = Part::Says(Line::Label(Label::Ran { pid, count }));
-        let end = Part::Says(Line::Label(Label::End { pid, why }));
-        let mut parts = list_of(self.alloc, [ran, end])?;
-        self.end_behind(pid, why, &mut parts)?;
-        Ok(parts)
+        say(Line::Label(Label::Ran { pid, count }), parts)?;
+        say(Line::Label(Label::End { pid, why }), parts)?;
+        self.end_behind(pid, why, parts)
     }
 
     /// Ends a process: behind what is said so far its queue goes message by message, and then its predecessors are told.
@@ -63,10 +67,7 @@ pub(crate) fn drop_all(queue: Parcels<Message>, parts: &mut Vec<Part>) -> Result
 {
     let mut queue = queue;
     while let Some(message) = queue.pop() {
-        push(
-            parts,
-            Part::Says(Line::Label(Label::Dropped { id: message.id })),
-        )?;
+        say(Line::Label(Label::Dropped { id: message.id }), parts)?;
     }
     Ok(())
 }

@@ -16,12 +16,12 @@ ghost use Rattle.dm_kernel.specs.Meets.{Answers, IsIn, kernel_state};
 ghost use Rattle.dm_kernel.specs.State.{says, with_known};
 
 use crate::kernel::Kernel;
-use crate::part::Part;
+use crate::part::{Part, say_and_route};
 use dm_datamove::answer;
 use dm_line::line::Line;
 use dm_link::{FIRST_NUMBER, Link, Pid};
 use dm_linktable::{FEW_SLOTS, MOST_SLOTS, Table};
-use dm_memory::{NoMemory, Parcel, list_of};
+use dm_memory::NoMemory;
 use dm_message::{Message, What};
 use dm_migrate::{Arriving, Ask, Leaving};
 use dm_onekernel::{Boot, BootImage, Label, Why};
@@ -37,15 +37,22 @@ impl Kernel {
         &mut self,
         boot: &Boot,
         message: &Message,
-    ) -> Result<Vec<Part>, NoMemory>
+        parts: &mut Vec<Part>,
+    ) -> Result<(), NoMemory>
         requires lawful { IsLawfulMessage message.now }
         requires images { images_are_valid boot.now.images ≡ true }
         requires fits { FitsKernel boot.now (kernel_state self.old) message.now message.now.what }
-        ensures { Answers result self.new (kernel_handles boot.now (kernel_state self.old) message.now message.now.what) }
+        ensures { Answers result self.new parts.old.items parts.new.items (kernel_handles boot.now (kernel_state self.old) message.now message.now.what) }
     {
         match &message.what {
             What::Create { image, links } => {
-                self.make(boot, message, image_of(boot, *image), links.as_slice())
+                self.make(
+                    boot,
+                    message,
+                    image_of(boot, *image),
+                    links.as_slice(),
+                    parts,
+                )
             }
             What::Ask {
                 pid,
@@ -62,22 +69,24 @@ impl Kernel {
                     size: *size,
                     asker: *asker,
                 };
-                self.answer(boot, message, ask)
+                self.answer(boot, message, ask, parts)
             }
-            What::Refuse { pid, .. } => self.stay(*pid),
-            What::PullState { pid, chunk } => self.give_chunk(message, *pid, *chunk),
+            What::Refuse { pid, .. } => self.stay(*pid, parts),
+            What::PullState { pid, chunk } => self.give_chunk(message, *pid, *chunk, parts),
             What::State {
                 pid,
                 chunk,
                 last,
                 bytes,
-            } => self.take_chunk(message, *pid, *chunk, *last, bytes.as_slice()),
-            What::PullBlock { pid, block } => self.give_block(message, *pid, *block),
-            What::Memory { pid, block, bytes } => { self.take_block(message, *pid, *block, bytes) }
-            What::AllTaken { pid } => self.let_go(*pid),
-            What::Restart { pid } => self.restart(boot, *pid),
-            What::CallOff { pid } => self.stay_behind(message, *pid),
-            What::Bury { pid } => self.bury(message, *pid),
+            } => self.take_chunk(message, *pid, *chunk, *last, bytes.as_slice(), parts),
+            What::PullBlock { pid, block } => self.give_block(message, *pid, *block, parts),
+            What::Memory { pid, block, bytes } => {
+                self.take_block(message, *pid, *block, bytes, parts)
+            }
+            What::AllTaken { pid } => self.let_go(*pid, parts),
+            What::Restart { pid } => self.restart(boot, *pid, parts),
+            What::CallOff { pid } => self.stay_behind(message, *pid, parts),
+            What::Bury { pid } => self.bury(message, *pid, parts),
             // No other kind is sent to a kernel: what a message must fit says so.
             _ => unreachable!(),
         }
@@ -90,19 +99,20 @@ impl Kernel {
         message: &Message,
         image: &BootImage,
         links: &[Link],
-    ) -> Result<Vec<Part>, NoMemory>
+        parts: &mut Vec<Part>,
+    ) -> Result<(), NoMemory>
         requires image { image_is_valid image.now ≡ true }
         requires links { length links.now ≤ 3 }
         requires counts { FIRST_NUMBER + self.old.made < u32.MAX }
-        ensures { Answers result self.new (makes boot.now (kernel_state self.old) message.now links.now image.now (has_room self.old.room image.now.blocks)) }
+        ensures { Answers result self.new parts.old.items parts.new.items (makes boot.now (kernel_state self.old) message.now links.now image.now (has_room self.old.room image.now.blocks)) }
     {
         match self.room.reserve(image.blocks) {
             Ok(()) => {
                 let pid = self.next_pid();
                 self.stand(pid, child_of(self.alloc, boot, pid, image, links)?)?;
-                self.made(message, pid)
+                self.made(message, pid, parts)
             }
-            Err(lacks) => self.no_space(message, lacks),
+            Err(lacks) => self.no_space(message, lacks, parts),
         }
     }
 
@@ -144,8 +154,8 @@ impl Kernel {
     }
 
     /// What is said of a process that is made, and the answer to who asked for it.
-    fn made(&self, message: &Message, pid: Pid) -> Result<Vec<Part>, NoMemory>
-        ensures { IfOk result (λ parts. parts.items ≡
+    fn made(&self, message: &Message, pid: Pid, parts: &mut Vec<Part>) -> Result<(), NoMemory>
+        ensures { OnOk result (parts.new.items ≡ parts.old.items ++
             says (label_.Created message.now.id pid) ∷ Part.Routes (answer self.now.here 0 message.now (what_.Created pid)) ∷ []) }
     {
         let said = Line::Label(Label::Created {
@@ -153,13 +163,17 @@ impl Kernel {
             pid,
         });
         let answer = answer(message, self.here, 0, What::Created { pid });
-        let answer = Parcel::new(self.alloc, answer)?;
-        list_of(self.alloc, [Part::Says(said), Part::Routes(answer)])
+        say_and_route(self.alloc, said, answer, parts)
     }
 
     /// What is said where there is no room, and the answer to who asked.
-    fn no_space(&self, message: &Message, lacks: Lacks) -> Result<Vec<Part>, NoMemory>
-        ensures { IfOk result (λ parts. parts.items ≡
+    fn no_space(
+        &self,
+        message: &Message,
+        lacks: Lacks,
+        parts: &mut Vec<Part>,
+    ) -> Result<(), NoMemory>
+        ensures { OnOk result (parts.new.items ≡ parts.old.items ++
             says (label_.NoSpace message.now.id lacks.free_slots lacks.free_blocks) ∷ Part.Routes (answer self.now.here 0 message.now what_.NoRoom) ∷ []) }
     {
         let Lacks {
@@ -172,8 +186,7 @@ impl Kernel {
             free_blocks,
         });
         let answer = answer(message, self.here, 0, What::NoRoom);
-        let answer = Parcel::new(self.alloc, answer)?;
-        list_of(self.alloc, [Part::Says(said), Part::Routes(answer)])
+        say_and_route(self.alloc, said, answer, parts)
     }
 }
 

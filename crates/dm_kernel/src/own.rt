@@ -1,13 +1,10 @@
 //! The messages that a machine's kernel sends itself.
-ghost use Rattle.std.specs.Prelude.{◌≡◌, ◌<◌, ◌∷◌, [], IfOk};
+ghost use Rattle.std.specs.Prelude.{◌≡◌, ◌<◌};
 ghost use Rattle.dm_kernel.specs.Meets.{IsIn, kernel_state};
 ghost use Rattle.dm_kernel.specs.State.{own, own_id, with_sent};
 
 use crate::kernel::Kernel;
-use crate::part::Part;
-use dm_line::line::Line;
 use dm_link::{Addr, Pid};
-use dm_memory::{NoMemory, Parcel, list_of};
 use dm_message::{Message, MsgId, What};
 
 impl Kernel {
@@ -39,13 +36,5 @@ impl Kernel {
             sender: Addr::of_kernel(self.here),
             what,
         }
-    }
-
-    /// The parts of a turn that says one line and sends one message.
-    pub(crate) fn say_and_route(&self, line: Line, message: Message) -> Result<Vec<Part>, NoMemory>
-        ensures { IfOk result (λ parts. parts.items ≡ Part.Says line ∷ Part.Routes message ∷ []) }
-    {
-        let message = Parcel::new(self.alloc, message)?;
-        list_of(self.alloc, [Part::Says(line), Part::Routes(message)])
     }
 }

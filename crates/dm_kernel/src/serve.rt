@@ -1,5 +1,5 @@
 //! How a process is served: it executes, or takes a message that it waits for.
-ghost use Rattle.std.specs.Prelude.{◌≡◌, ◌<◌, [], ◌∷◌, IfOk};
+ghost use Rattle.std.specs.Prelude.{◌≡◌, ◌<◌, [], ◌∷◌, ◌++◌, OnOk};
 ghost use Rattle.dm_records.specs.Records.{at};
 ghost use Rattle.dm_onekernel.specs.Options.{bind};
 ghost use Rattle.dm_onekernel.specs.declared.label.Label.TheVariants as label_;
@@ -10,12 +10,12 @@ ghost use Rattle.dm_kernel.specs.Served.{Executes, HasPlace, IsHere, Receives, S
 ghost use Rattle.dm_kernel.specs.State.{says, process_in};
 
 use crate::kernel::Kernel;
-use crate::part::Part;
+use crate::part::{Part, say};
 use crate::residents::process_mut;
 use crate::run::{Halt, execute};
 use dm_line::line::Line;
 use dm_link::{MACHINES, Pid};
-use dm_memory::{NoMemory, Parcel, list_of};
+use dm_memory::{NoMemory, Parcel, push};
 use dm_message::{Message, MsgId};
 use dm_onekernel::{Label, Why};
 use dm_process::Service;
@@ -28,22 +28,23 @@ impl Kernel {
         pid: Pid,
         service: Service,
         quantum: u32,
-    ) -> Result<Vec<Part>, NoMemory>
+        parts: &mut Vec<Part>,
+    ) -> Result<(), NoMemory>
         requires here { self.old.here < MACHINES }
         requires process { IsHere (Serves (kernel_state self.old) pid service) (at self.old.records pid) }
-        ensures { Answers result self.new (serves quantum (kernel_state self.old) pid (at self.old.records pid)) }
+        ensures { Answers result self.new parts.old.items parts.new.items (serves quantum (kernel_state self.old) pid (at self.old.records pid)) }
     {
         match service {
-            Service::Execute => self.run(pid, quantum),
-            Service::Receive { mask, place } => self.receive(pid, mask, place),
+            Service::Execute => self.run(pid, quantum, parts),
+            Service::Receive { mask, place } => self.receive(pid, mask, place, parts),
         }
     }
 
     /// Lets a ready process execute.
-    fn run(&mut self, pid: Pid, quantum: u32) -> Result<Vec<Part>, NoMemory>
+    fn run(&mut self, pid: Pid, quantum: u32, parts: &mut Vec<Part>) -> Result<(), NoMemory>
         requires here { self.old.here < MACHINES }
         requires process { IsHere (Executes (kernel_state self.old) pid) (at self.old.records pid) }
-        ensures { Answers result self.new (bind (process_in (at self.old.records pid))
+        ensures { Answers result self.new parts.old.items parts.new.items (bind (process_in (at self.old.records pid))
             (λ x. executes (kernel_state self.old) pid x (ran quantum (processor_of x)))) }
     {
         let here = self.here;
@@ -53,11 +54,11 @@ impl Kernel {
             Some(halt) => match halt {
                 Halt::Call(number) => {
                     let called = call(self.alloc, process, number, here)?;
-                    self.after_call(pid, count, number, called)
+                    self.after_call(pid, count, number, called, parts)
                 }
-                Halt::Fault(fault) => self.end(pid, count, Why::Fault(fault)),
+                Halt::Fault(fault) => self.end(pid, count, Why::Fault(fault), parts),
             },
-            None => self.say(Line::Label(Label::Ran { pid, count })),
+            None => say(Line::Label(Label::Ran { pid, count }), parts),
         }
     }
 
@@ -68,65 +69,79 @@ impl Kernel {
         count: u32,
         number: u8,
         called: Called,
-    ) -> Result<Vec<Part>, NoMemory>
+        parts: &mut Vec<Part>,
+    ) -> Result<(), NoMemory>
         requires { IsHere (HasPlace (kernel_state self.old)) (at self.old.records pid) }
-        ensures { Answers result self.new (bind (process_in (at self.old.records pid)) (λ x. called_with (kernel_state self.old) pid count number x called)) }
+        ensures { Answers result self.new parts.old.items parts.new.items (bind (process_in (at self.old.records pid)) (λ x. called_with (kernel_state self.old) pid count number x called)) }
     {
         match called {
-            Called::Replied(reply) => self.goes_on(pid, count, Label::Call { pid, number, reply }),
-            Called::Sent(message) => self.sends(pid, count, message),
-            Called::Moving(message) => self.sends(pid, count, message),
-            Called::Waits => self.goes_on(pid, count, Label::Wait { pid }),
-            Called::Out(word) => self.goes_on(pid, count, Label::Out { pid, word }),
-            Called::Ended(why) => self.end(pid, count, why),
+            Called::Replied(reply) => say_goes_on(
+                pid,
+                count,
+                Label::Call { pid, number, reply },
+                parts,
+            ),
+            Called::Sent(message) => say_sends(pid, count, message, parts),
+            Called::Moving(message) => say_sends(pid, count, message, parts),
+            Called::Waits => say_goes_on(pid, count, Label::Wait { pid }, parts),
+            Called::Out(word) => say_goes_on(pid, count, Label::Out { pid, word }, parts),
+            Called::Ended(why) => self.end(pid, count, why, parts),
         }
     }
 
-    /// What is said of a process that goes on after a call.
-    fn goes_on(&self, pid: Pid, count: u32, label: Label) -> Result<Vec<Part>, NoMemory>
-        ensures { IfOk result (λ parts. parts.items ≡ says (label_.Ran pid count) ∷ says label ∷ []) }
-    {
-        let ran = Line::Label(Label::Ran { pid, count });
-        list_of(
-            self.alloc,
-            [Part::Says(ran), Part::Says(Line::Label(label))],
-        )
-    }
-
-    /// What is said of a process that has sent a message, which goes out.
-    fn sends(&self, pid: Pid, count: u32, message: Parcel<Message>) -> Result<Vec<Part>, NoMemory>
-        ensures { IfOk result (λ parts. parts.items ≡ says (label_.Ran pid count) ∷ says (label_.Send pid message.id) ∷ Part.Routes message ∷ []) }
-    {
-        let ran = Line::Label(Label::Ran { pid, count });
-        let sent = Line::Label(Label::Send {
-            pid,
-            id: message.get().id,
-        });
-        list_of(
-            self.alloc,
-            [Part::Says(ran), Part::Says(sent), Part::Routes(message)],
-        )
-    }
-
     /// Lets a process that waits take the message at a place of its queue, or refuses it that.
-    fn receive(&mut self, pid: Pid, mask: u32, place: usize) -> Result<Vec<Part>, NoMemory>
+    fn receive(
+        &mut self,
+        pid: Pid,
+        mask: u32,
+        place: usize,
+        parts: &mut Vec<Part>,
+    ) -> Result<(), NoMemory>
         requires { IsHere (Receives (kernel_state self.old) pid mask place) (at self.old.records pid) }
-        ensures { Answers result self.new (bind (process_in (at self.old.records pid))
+        ensures { Answers result self.new parts.old.items parts.new.items (bind (process_in (at self.old.records pid))
             (λ x. receives (kernel_state self.old) pid x mask (first_on mask x.queue))) }
     {
         let process = process_mut(&mut self.records, pid).unwrap();
         let id = process.queue.at(place).id;
         let completed = complete_receive(process, place);
-        self.completed(pid, id, completed)
+        say_completed(pid, id, completed, parts)
     }
+}
 
-    /// What is said of a receive that a message came to.
-    fn completed(&self, pid: Pid, id: MsgId, completed: Completed) -> Result<Vec<Part>, NoMemory>
-        ensures { IfOk result (λ parts. parts.items ≡ says (completed_label pid id completed) ∷ []) }
-    {
-        match completed {
-            Completed::Received(id) => self.say(Line::Label(Label::Receive { pid, id })),
-            Completed::Refused(reply) => self.say(Line::Label(Label::Refuse { pid, id, reply })),
-        }
+/// Says that a process goes on after a call.
+fn say_goes_on(pid: Pid, count: u32, label: Label, parts: &mut Vec<Part>) -> Result<(), NoMemory>
+    ensures { OnOk result (parts.new.items ≡ parts.old.items ++ says (label_.Ran pid count) ∷ says label ∷ []) }
+{
+    say(Line::Label(Label::Ran { pid, count }), parts)?;
+    say(Line::Label(label), parts)
+}
+
+/// Says that a process has sent a message, which goes out.
+fn say_sends(
+    pid: Pid,
+    count: u32,
+    message: Parcel<Message>,
+    parts: &mut Vec<Part>,
+) -> Result<(), NoMemory>
+    ensures { OnOk result (parts.new.items ≡ parts.old.items ++ says (label_.Ran pid count) ∷ says (label_.Send pid message.id) ∷ Part.Routes message ∷ []) }
+{
+    let id = message.get().id;
+    say(Line::Label(Label::Ran { pid, count }), parts)?;
+    say(Line::Label(Label::Send { pid, id }), parts)?;
+    push(parts, Part::Routes(message))
+}
+
+/// Says what became of a receive that a message came to.
+fn say_completed(
+    pid: Pid,
+    id: MsgId,
+    completed: Completed,
+    parts: &mut Vec<Part>,
+) -> Result<(), NoMemory>
+    ensures { OnOk result (parts.new.items ≡ parts.old.items ++ says (completed_label pid id completed) ∷ []) }
+{
+    match completed {
+        Completed::Received(id) => say(Line::Label(Label::Receive { pid, id }), parts),
+        Completed::Refused(reply) => say(Line::Label(Label::Refuse { pid, id, reply }), parts),
     }
 }

@@ -1,5 +1,5 @@
 //! What a machine's kernel does with a message for a process, a row a function.
-ghost use Rattle.std.specs.Prelude.{◌≡◌, ◌<◌, [], ◌∷◌, IfOk, IsSome};
+ghost use Rattle.std.specs.Prelude.{◌≡◌, ◌<◌, [], ◌∷◌, ◌++◌, IsSome, OnOk};
 ghost use Rattle.dm_datamove.specs.Serving.{IsRequest};
 ghost use Rattle.dm_records.specs.Records.{at};
 ghost use Rattle.dm_message.specs.Lawful.{IsLawfulMessage};
@@ -13,26 +13,30 @@ ghost use Rattle.dm_kernel.specs.Served.{AwaitsPiece, HasPlace, IsHere, OwnsPiec
 ghost use Rattle.dm_kernel.specs.State.{says, turned, with_here, process_in};
 
 use crate::kernel::Kernel;
-use crate::part::Part;
+use crate::part::{Part, say};
 use crate::residents::process_mut;
 use dm_datamove::{Landed, gone, land, serve};
 use dm_line::line::Line;
 use dm_link::MACHINES;
-use dm_memory::{NoMemory, Parcel, list_of};
+use dm_memory::{NoMemory, Parcel, push};
 use dm_message::{Message, MsgId};
 use dm_onekernel::{Label, Why};
 
 impl Kernel {
     /// Puts a message at the back of its receiver's queue.
-    pub(crate) fn queue(&mut self, message: Parcel<Message>) -> Result<Vec<Part>, NoMemory>
+    pub(crate) fn queue(
+        &mut self,
+        message: Parcel<Message>,
+        parts: &mut Vec<Part>,
+    ) -> Result<(), NoMemory>
         requires { IsSome (process_in (at self.old.records message.to.pid)) }
-        ensures { Answers result self.new (bind (process_in (at self.old.records message.to.pid))
+        ensures { Answers result self.new parts.old.items parts.new.items (bind (process_in (at self.old.records message.to.pid))
             (λ x. turned (with_here (kernel_state self.old) message.to.pid (queued x message)) (Part.Says (line_.Queued message.id) ∷ []))) }
     {
         let (id, to) = (message.get().id, message.get().to);
         let process = process_mut(&mut self.records, to.pid).unwrap();
         process.queue.push(message)?;
-        self.say(Line::Queued(id))
+        say(Line::Queued(id), parts)
     }
 
     /// Stops a process, or lets it go on.
@@ -40,45 +44,53 @@ impl Kernel {
         &mut self,
         message: &Message,
         stopped: bool,
-    ) -> Result<Vec<Part>, NoMemory>
+        parts: &mut Vec<Part>,
+    ) -> Result<(), NoMemory>
         requires { IsSome (process_in (at self.old.records message.now.to.pid)) }
-        ensures { Answers result self.new (bind (process_in (at self.old.records message.now.to.pid))
+        ensures { Answers result self.new parts.old.items parts.new.items (bind (process_in (at self.old.records message.now.to.pid))
             (λ x. served_as (kernel_state self.old) message.now (record x { stopped = stopped }))) }
     {
         let process = process_mut(&mut self.records, message.to.pid).unwrap();
         process.stopped = stopped;
-        self.say_served(message.id)
+        say_served(message.id, parts)
     }
 
     /// Ends a process that is to be killed.
-    pub(crate) fn kill(&mut self, message: &Message) -> Result<Vec<Part>, NoMemory>
+    pub(crate) fn kill(&mut self, message: &Message, parts: &mut Vec<Part>) -> Result<(), NoMemory>
         requires { IsHere (HasPlace (kernel_state self.old)) (at self.old.records message.now.to.pid) }
-        ensures { Answers result self.new (bind (process_in (at self.old.records message.now.to.pid)) (λ x. killed (kernel_state self.old) message.now x)) }
+        ensures { Answers result self.new parts.old.items parts.new.items (bind (process_in (at self.old.records message.now.to.pid)) (λ x. killed (kernel_state self.old) message.now x)) }
     {
-        let mut parts = self.say_served(message.id)?;
-        self.end_behind(message.to.pid, Why::Killed, &mut parts)?;
-        Ok(parts)
+        say_served(message.id, parts)?;
+        self.end_behind(message.to.pid, Why::Killed, parts)
     }
 
     /// Reads or writes a piece of a process's memory, and answers.
-    pub(crate) fn answer_piece(&mut self, message: &Message) -> Result<Vec<Part>, NoMemory>
+    pub(crate) fn answer_piece(
+        &mut self,
+        message: &Message,
+        parts: &mut Vec<Part>,
+    ) -> Result<(), NoMemory>
         requires lawful { IsLawfulMessage message.now }
         requires here { self.old.here < MACHINES }
         requires owner { IsHere (OwnsPiece message.now) (at self.old.records message.now.to.pid) }
-        ensures { Answers result self.new (bind (process_in (at self.old.records message.now.to.pid)) (λ x. answered (kernel_state self.old) message.now x)) }
+        ensures { Answers result self.new parts.old.items parts.new.items (bind (process_in (at self.old.records message.now.to.pid)) (λ x. answered (kernel_state self.old) message.now x)) }
     {
         let here = self.here;
         let process = process_mut(&mut self.records, message.to.pid).unwrap();
         let answer = Parcel::new(self.alloc, serve(process, message, here))?;
-        self.serve_and_route(message.id, answer)
+        serve_and_route(message.id, answer, parts)
     }
 
     /// Lands the answer to a piece at the process that asked for it, which may ask for the next one.
-    pub(crate) fn land_piece(&mut self, message: &Message) -> Result<Vec<Part>, NoMemory>
+    pub(crate) fn land_piece(
+        &mut self,
+        message: &Message,
+        parts: &mut Vec<Part>,
+    ) -> Result<(), NoMemory>
         requires lawful { IsLawfulMessage message.now }
         requires here { self.old.here < MACHINES }
         requires mover { IsHere (AwaitsPiece message.now) (at self.old.records message.now.to.pid) }
-        ensures { Answers result self.new (bind (process_in (at self.old.records message.now.to.pid))
+        ensures { Answers result self.new parts.old.items parts.new.items (bind (process_in (at self.old.records message.now.to.pid))
             (λ x. lands (kernel_state self.old) message.now (landing self.old.here x message.now.what x.status))) }
     {
         let here = self.here;
@@ -86,43 +98,55 @@ impl Kernel {
         match land(process, message, here) {
             Landed::Next(request) => {
                 let request = Parcel::new(self.alloc, request)?;
-                self.serve_and_route(message.id, request)
+                serve_and_route(message.id, request, parts)
             }
-            Landed::Done(_) => self.say_served(message.id),
+            Landed::Done(_) => say_served(message.id, parts),
         }
     }
 
     /// Answers a request for a piece of a process that has ended, or one that it move.
-    pub(crate) fn answer_gone(&self, message: &Message) -> Result<Vec<Part>, NoMemory>
+    pub(crate) fn answer_gone(
+        &self,
+        message: &Message,
+        parts: &mut Vec<Part>,
+    ) -> Result<(), NoMemory>
         requires lawful { IsLawfulMessage message.now }
         requires here { self.now.here < MACHINES }
         requires request { IsRequest message.now.what }
-        ensures { Answers result self.now (is_gone (kernel_state self.now) message.now) }
+        ensures { Answers result self.now parts.old.items parts.new.items (is_gone (kernel_state self.now) message.now) }
     {
         let answer = Parcel::new(self.alloc, gone(message, self.here))?;
-        let said = Line::Label(Label::Gone { id: message.id });
-        list_of(self.alloc, [Part::Says(said), Part::Routes(answer)])
+        say(Line::Label(Label::Gone { id: message.id }), parts)?;
+        push(parts, Part::Routes(answer))
     }
 
     /// Drops a message for a process that has ended.
-    pub(crate) fn drop_message(&self, message: &Message) -> Result<Vec<Part>, NoMemory>
-        ensures { Answers result self.now (is_dropped (kernel_state self.now) message.now) }
+    pub(crate) fn drop_message(
+        &self,
+        message: &Message,
+        parts: &mut Vec<Part>,
+    ) -> Result<(), NoMemory>
+        ensures { Answers result self.now parts.old.items parts.new.items (is_dropped (kernel_state self.now) message.now) }
     {
-        self.say(Line::Label(Label::Dropped { id: message.id }))
+        say(Line::Label(Label::Dropped { id: message.id }), parts)
     }
+}
 
-    /// The one part of a turn that served a message.
-    fn say_served(&self, id: MsgId) -> Result<Vec<Part>, NoMemory>
-        ensures { IfOk result (λ parts. parts.items ≡ says (label_.Served id) ∷ []) }
-    {
-        self.say(Line::Label(Label::Served { id }))
-    }
+/// Says that a message was served.
+fn say_served(id: MsgId, parts: &mut Vec<Part>) -> Result<(), NoMemory>
+    ensures { OnOk result (parts.new.items ≡ parts.old.items ++ says (label_.Served id) ∷ []) }
+{
+    say(Line::Label(Label::Served { id }), parts)
+}
 
-    /// The parts of a turn that served a message and sends one.
-    fn serve_and_route(&self, id: MsgId, message: Parcel<Message>) -> Result<Vec<Part>, NoMemory>
-        ensures { IfOk result (λ parts. parts.items ≡ says (label_.Served id) ∷ Part.Routes message ∷ []) }
-    {
-        let said = Line::Label(Label::Served { id });
-        list_of(self.alloc, [Part::Says(said), Part::Routes(message)])
-    }
+/// Says that a message was served, and routes the one that is sent.
+fn serve_and_route(
+    id: MsgId,
+    message: Parcel<Message>,
+    parts: &mut Vec<Part>,
+) -> Result<(), NoMemory>
+    ensures { OnOk result (parts.new.items ≡ parts.old.items ++ says (label_.Served id) ∷ Part.Routes message ∷ []) }
+{
+    say_served(id, parts)?;
+    push(parts, Part::Routes(message))
 }

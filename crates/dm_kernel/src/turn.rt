@@ -1,6 +1,6 @@
 //! A turn of the machine.
 ghost use Rattle.dm_resident.specs.declared.Resident.TheVariants as resident;
-ghost use Rattle.std.specs.Prelude.{◌≡◌, ◌<◌, [], ◌∷◌, IfOk, IfSome, OnOk, Some, is_some, length, slice_get, true};
+ghost use Rattle.std.specs.Prelude.{◌≡◌, ◌<◌, IfSome, OnOk, Some, is_some, length, slice_get, true};
 ghost use Rattle.dm_records.specs.Records.{at};
 ghost use Rattle.dm_records.specs.declared.record.Record.TheVariants.{Here};
 ghost use Rattle.dm_onekernel.specs.Boot.{images_are_valid};
@@ -13,46 +13,46 @@ ghost use Rattle.dm_kernel.specs.Served.{IsHere};
 ghost use Rattle.dm_kernel.specs.Turn.{first_runnable, goes_round, known_is_runnable, turn};
 
 use crate::kernel::Kernel;
-use crate::part::Part;
+use crate::part::{Part, say};
 use crate::residents::process_mut;
 use crate::ring::move_back;
 use dm_line::line::Line;
 use dm_link::{MACHINES, Pid};
-use dm_memory::{NoMemory, list_of};
+use dm_memory::NoMemory;
 use dm_onekernel::Boot;
 use dm_process::Service;
 
 impl Kernel {
     /// Takes a turn: handles the message at the inbox's front, or serves the first process of the ring that can be
-    /// served, or is idle. Answers what it says and routes, in order.
-    pub fn turn(&mut self, boot: &Boot) -> Result<Vec<Part>, NoMemory>
+    /// served, or is idle. What it says and routes, in order, comes to the end of `parts`.
+    pub fn turn(&mut self, boot: &Boot, parts: &mut Vec<Part>) -> Result<(), NoMemory>
         requires may { MayTurn boot.now (kernel_state self.old) }
         requires images { images_are_valid boot.now.images ≡ true }
-        ensures answers { Answers result self.new (turn boot.now (kernel_state self.old)) }
+        ensures answers { Answers result self.new parts.old.items parts.new.items (turn boot.now (kernel_state self.old)) }
         // Where it froze a process or a server, that can be carried whole.
         ensures whole { OnOk result (FreezesWhole (kernel_state self.old) self.old.inbox) }
     {
         self.over = None;
         match self.inbox.pop() {
-            Some(message) => self.handle(boot, message),
-            None => self.go_round(boot),
+            Some(message) => self.handle(boot, message, parts),
+            None => self.go_round(boot, parts),
         }
     }
 
     /// Serves the first process of the ring that can be served, which goes to the ring's back.
-    fn go_round(&mut self, boot: &Boot) -> Result<Vec<Part>, NoMemory>
+    fn go_round(&mut self, boot: &Boot, parts: &mut Vec<Part>) -> Result<(), NoMemory>
         requires here { self.old.here < MACHINES }
         requires sent { CanTellAll (kernel_state self.old) }
         requires processes { (p : _) (x : _) → at self.old.records p ≡ Some (Here (resident.Process x)) → MayAct (kernel_state self.old) p x }
-        ensures { Answers result self.new (goes_round boot.now (kernel_state self.old) (first_runnable (at self.old.records) self.old.ring)) }
+        ensures { Answers result self.new parts.old.items parts.new.items (goes_round boot.now (kernel_state self.old) (first_runnable (at self.old.records) self.old.ring)) }
     {
         match self.first_service() {
             Some((place, service)) => {
                 let pid = *self.ring.at(place);
                 move_back(&mut self.ring, place);
-                self.serve(pid, service, boot.quantum)
+                self.serve(pid, service, boot.quantum, parts)
             }
-            None => self.say(Line::Idle(self.here)),
+            None => say(Line::Idle(self.here), parts),
         }
     }
 
@@ -82,12 +82,5 @@ impl Kernel {
             Some(process) => process.service(),
             None => None,
         }
-    }
-
-    /// The one part of a turn that says one line.
-    pub(crate) fn say(&self, line: Line) -> Result<Vec<Part>, NoMemory>
-        ensures { IfOk result (λ parts. parts.items ≡ Part.Says line ∷ []) }
-    {
-        list_of(self.alloc, [Part::Says(line)])
     }
 }

@@ -1,6 +1,6 @@
 -- The parts of a turn, one after another.
-use Rattle.dm_node.proofs.Names.{◌≡◌, ℕ, suc, ◌≤◌, Bool, true, false, ◌==◌, List, [], ◌∷◌, ◌++◌, length, refl, sym, ap, subst, inl, inr, ◌∙◌, append_assoc, append-nil, arith, Result, ⊤, if◌then◌else◌, Option, None, Some, Ok, Err, eqb_tells}
-use Rattle.dm_node.proofs.Names.{Message, Line, Kernel, Part, KernelState, Turned, Sending, due, with_given, Node, Stop, Out, Says, NodeState, here, with_sender, Acts, Goes, Worn, behind, then_, acts, gives, is_worn, none_waits, routes}
+use Rattle.dm_node.proofs.Names.{◌≡◌, ℕ, ◌≤◌, Bool, true, false, ◌==◌, List, [], ◌∷◌, ◌++◌, refl, sym, ap, subst, inl, inr, ◌∙◌, append_assoc, append-nil, arith, Result, ⊤, if◌then◌else◌, Option, None, Some, Ok, Err, eqb_tells}
+use Rattle.dm_node.proofs.Names.{All, IsLawfulPart, IsLawfulTurned, Message, Line, Kernel, Part, Turned, Sending, due, with_given, Node, Stop, Out, Says, NodeState, here, with_sender, Acts, Goes, Worn, behind, then_, acts, gives, is_worn, none_waits, routes}
 use Rattle.dm_node.proofs.Names.{routes_away, routes_home, sends_due, turns, Answers, AnswersSome, GaveActs, HasStreams, OrNoMemory, node_state}
 use Rattle.dm_kernel.specs.declared.part.Part.TheVariants as part
 use Rattle.dm_kernel.specs.Meets as kernel
@@ -33,12 +33,8 @@ message_routed r after between n m ps old mid new g rest = then_answers r after 
 nothing_left : (n : Node) (outs : List Out) → HasStreams n → Answers (Ok tt) n outs outs (acts (node_state n) [])
 nothing_left n outs h = record { state = refl; streams = h; outs = sym (append-nil outs) }
 
-none_in : (ps : List Part) → length ps ≡ 0 → ps ≡ []
-none_in [] h = refl
-none_in (p ∷ ps) h = absurd (let e : suc (length ps) ≡ 0 = h in cc)
-
-pub all_done : (n : Node) (outs : List Out) (ps : List Part) → length ps ≡ 0 → HasStreams n → Answers (Ok tt) n outs outs (acts (node_state n) ps)
-all_done n outs ps e h = subst (λ xs. Answers (Ok tt) n outs outs (acts (node_state n) xs)) (sym (none_in ps e)) (nothing_left n outs h)
+pub all_done : (n : Node) (outs : List Out) (ps : List Part) → ps ≡ [] → HasStreams n → Answers (Ok tt) n outs outs (acts (node_state n) ps)
+all_done n outs ps e h = subst (λ xs. Answers (Ok tt) n outs outs (acts (node_state n) xs)) (sym e) (nothing_left n outs h)
 
 pub gave_streams : (a : Acts) (after : Node) (old new : List Out) → GaveActs after old new a → HasStreams after
 gave_streams (Goes a) after old new g = g.streams
@@ -92,7 +88,7 @@ some_answered (Ok done) after old new a g = g
 some_answered (Err (stop.Worn x y)) after old new a g = g
 some_answered (Err (stop.NoMemory e)) after old new a g = tt
 
-pub turn_answered : (r : Result Unit Stop) (after : Node) (n : NodeState) (k : Kernel) (parts : List Part) (t : Option Turned) (old new : List Out) → kernel.MeetsSome k parts t
+pub turn_answered : (r : Result Unit Stop) (after : Node) (n : NodeState) (k : Kernel) (parts : List Part) (t : Option Turned) (old new : List Out) → kernel.MeetsSome k [] parts t
     → Answers r after old new (acts (record n { kernel = kernel.kernel_state k }) parts) → AnswersSome r after old new (turns n t)
 turn_answered r after n k parts None old new h g = absurd h
 turn_answered r after n k parts (Some t) old new h g =
@@ -105,3 +101,8 @@ pub or_no_memory : {X : Type 0} (r : Result X Stop) (P : Type 0) → P → OrNoM
 or_no_memory (Ok done) P h = h
 or_no_memory (Err (stop.Worn from to)) P h = h
 or_no_memory (Err (stop.NoMemory e)) P h = tt
+
+-- what an event of the kernel says and routes in a list that was empty is lawful, as all that it gives
+pub lawful_parts : (k : Kernel) (ps : List Part) (o : Option Turned) → kernel.MeetsSome k [] ps o → ((t : Turned) → o ≡ Some t → IsLawfulTurned t) → All IsLawfulPart ps
+lawful_parts k ps None h f = absurd h
+lawful_parts k ps (Some t) h f = subst (All IsLawfulPart) (sym h.parts) (f t refl).parts.each

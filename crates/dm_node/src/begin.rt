@@ -34,6 +34,7 @@ impl Node {
             home: 0,
             senders,
             receivers,
+            parts: Vec::new(alloc),
         })
     }
 }

@@ -1,5 +1,5 @@
 //! A machine.
-use dm_kernel::Kernel;
+use dm_kernel::{Kernel, Part};
 use dm_memory::Parcel;
 use dm_message::Message;
 use dm_stream::{Receiver, Sender};
@@ -19,4 +19,6 @@ pub struct Node {
     /// What goes to each machine, and what comes from it, for 16 machines.
     pub(crate) senders: Vec<Sender<Parcel<Message>>>,
     pub(crate) receivers: Vec<Receiver<Parcel<Message>>>,
+    /// Where the parts of an event of its kernel stand until they are printed and routed; it is kept for its memory.
+    pub(crate) parts: Vec<Part>,
 }

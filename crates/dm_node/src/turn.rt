@@ -17,6 +17,7 @@ use dm_line::line::Line;
 use dm_link::{MACHINES, Pid};
 use dm_memory::{NoMemory, Parcel};
 use dm_onekernel::Boot;
+use std::mem;
 
 impl Node {
     /// Takes a turn. What it gives comes to the end of `outs`. It stops as worn exactly where it would route a message
@@ -31,10 +32,9 @@ impl Node {
         ensures whole { OrNoMemory result (FreezesWhole (node_state self.old).kernel (node_state self.old).kernel.inbox) }
     {
         turns_are_lawful();
-        match self.kernel.turn(boot) {
-            Ok(parts) => self.act(parts, outs),
-            Err(e) => Err(Stop::NoMemory(e)),
-        }
+        self.parts.clear();
+        self.kernel.turn(boot, &mut self.parts)?;
+        self.act(outs)
     }
 
     /// Has the manager tell a process or a server to move to a machine, on the machine where the manager is. What it gives comes to
@@ -47,10 +47,9 @@ impl Node {
         ensures { AnswersSome result self.new outs.old.items outs.new.items (asks_move (node_state self.old) pid to) }
     {
         moves_are_asked_lawfully();
-        match self.kernel.ask_move(pid, to) {
-            Ok(parts) => self.act(parts, outs),
-            Err(e) => Err(Stop::NoMemory(e)),
-        }
+        self.parts.clear();
+        self.kernel.ask_move(pid, to, &mut self.parts)?;
+        self.act(outs)
     }
 
     /// Calls off the migration of a process to this machine. What it gives comes to the end of `outs`, and it stops as worn like
@@ -62,26 +61,27 @@ impl Node {
         ensures { AnswersSome result self.new outs.old.items outs.new.items (calls_off (node_state self.old) pid) }
     {
         calls_off_lawfully();
-        match self.kernel.call_off(pid) {
-            Ok(parts) => self.act(parts, outs),
-            Err(e) => Err(Stop::NoMemory(e)),
-        }
+        self.parts.clear();
+        self.kernel.call_off(pid, &mut self.parts)?;
+        self.act(outs)
     }
 
-    /// Prints and routes the parts of a turn, in order.
-    fn act(&mut self, parts: Vec<Part>, outs: &mut Vec<Out>) -> Result<(), Stop>
+    /// Prints and routes the parts of an event of the kernel, in order; their list is kept for its memory.
+    fn act(&mut self, outs: &mut Vec<Out>) -> Result<(), Stop>
         requires streams { HasStreams self.old }
-        requires parts { All IsLawfulPart parts.items }
+        requires parts { All IsLawfulPart self.old.parts.items }
         requires home { self.old.home ≤ self.old.numbers }
         requires numbers { self.old.numbers < 2 ^ 32 }
-        ensures { Answers result self.new outs.old.items outs.new.items (acts (node_state self.old) parts.items) }
+        ensures { Answers result self.new outs.old.items outs.new.items (acts (node_state self.old) self.old.parts.items) }
     {
-        for part in parts {
+        let mut parts = mem::replace(&mut self.parts, Vec::new(self.alloc));
+        for part in parts.drain(..) {
             match part {
                 Part::Says(line) => push(outs, Out::Says(line))?,
                 Part::Routes(message) => self.route(message, outs)?,
             }
         }
+        self.parts = parts;
         Ok(())
     }
 

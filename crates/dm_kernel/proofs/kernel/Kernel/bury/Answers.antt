@@ -9,9 +9,9 @@ returns c =
     let s = kernel_state c.args.self.now in
     let f = has c.predecessors-predecessors.result in
     let count : c.from.result ≡ length (machines_with f) = c.from.ensures ∙ c.count.ensures in
-    hears s _ c.args.message.now c.args.pid f c.from.result c.tell_end.new.self c.in_ok-parts.parts.items c.tell_end.new.parts.items c.predecessors-predecessors.ensures
+    hears c.tell_end.result s _ c.args.message.now c.args.pid f c.from.result c.tell_end.new.self c.args.parts.now.items c.say.new.parts.items c.tell_end.new.parts.items c.predecessors-predecessors.ensures
     (same_places s _ (without_record s.records c.args.pid) _ (without_preds s.preds c.args.pid) c.remove.ensures.after c.remove.ensures.preds)
-    c.in_ok-tell_end.ensures.state
+    c.tell_end.ensures.state
     count
-    c.in_ok-parts.ensures
-    c.in_ok-tell_end.ensures.parts
+    c.in_ok-say.ensures
+    c.tell_end.ensures.parts

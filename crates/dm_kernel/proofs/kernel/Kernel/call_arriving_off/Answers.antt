@@ -5,7 +5,7 @@ use Rattle.dm_kernel.proofs.kernel.Kernel.call_arriving_off.Goals as goal
 pub returns-in-Err : goal.returns-in-Err
 returns-in-Err c =
     let old = c.args.self.now in
-    not_called c.say.result _ (kernel_state old) c.args.pid c.take_incoming-arriving.result (incoming_of (at old.records c.args.pid)) c.take_incoming-arriving.ensures.before c.in-Err.ensures.whole c.say.ensures
+    not_called c.say.result _ c.args.parts.now.items c.say.new.parts.items (kernel_state old) c.args.pid c.take_incoming-arriving.result (incoming_of (at old.records c.args.pid)) c.take_incoming-arriving.ensures.before c.in-Err.ensures.whole c.say.ensures
     (record {
       here = refl;
       records = put_back (at old.records) (at c.take_incoming-arriving.new.self) (at c.put_back-in-Err.new.self) c.args.pid c.take_incoming-arriving.result c.in-Err.arriving c.take_incoming-arriving.ensures.before c.in-Err.ensures.returned

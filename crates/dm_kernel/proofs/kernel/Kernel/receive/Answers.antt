@@ -29,7 +29,7 @@ returns c =
     let was : process_in (at c.args.self.now.records c.args.pid) ≡ Some x = sym c.process_mut.ensures.value ∙ ap option_copied_mut c.unwrap-process.ensures in
     let mine : Receives s c.args.pid c.args.mask c.args.place x = is_here (Receives s c.args.pid c.args.mask c.args.place) _ x was c.requires in
     let set = c.process_mut.follows.holds w (has_some _ x was) in
-    says_one _ (with_here s c.args.pid w) _ c.completed.result _ (
+    says_one _ (with_here s c.args.pid w) _ c.say_completed.result c.args.parts.now.items c.say_completed.new.parts.items _ (
     received_at s c.args.pid x c.args.mask c.args.place c.at.result.now (record { completed = c.complete_receive-completed.result; process = w }) mine.takes c.at.ensures c.complete_receive-completed.ensures.exact
     ∙ sym (of_here _ x (λ y. receives s c.args.pid y c.args.mask (first_on c.args.mask y.queue)) was)
-    ) (sets s c.args.pid w _ _ set.0 set.1) c.completed.ensures
+    ) (sets s c.args.pid w _ _ set.0 set.1) c.say_completed.ensures

@@ -43,7 +43,7 @@ returns-in_ok-called-in-Call c =
     let w = c.call.new.process in
     let set = c.process_mut.follows.holds w (has_some _ x (sym c.process_mut.ensures.value ∙ ap option_copied_mut c.unwrap-process.ensures)) in
     let halted : c.execute-count.result.1 ≡ Some (halt.Call c.in-Call.number) = c.in-Some.is ∙ ap Some c.in-Call.is in
-    subst (Answers c.after_call.result c.after_call.new.self)
+    subst (Answers c.after_call.result c.after_call.new.self c.args.parts.now.items c.after_call.new.parts.items)
     (called_as s _ c.args.pid c.execute-count.result.0 c.in-Call.number w _ c.in_ok-called-in-Call.called
     (sets s c.args.pid w _ _ set.0 set.1)
     c.in_ok-called-in-Call.ensures.process
@@ -60,7 +60,7 @@ returns-in-Fault c =
     let was = sym c.process_mut.ensures.value ∙ ap option_copied_mut c.unwrap-process.ensures in
     let set = c.process_mut.follows.holds w (has_some _ x was) in
     let halted : c.execute-count.result.1 ≡ Some (halt.Fault c.in-Fault.fault) = c.in-Some.is ∙ ap Some c.in-Fault.is in
-    subst (Answers c.end.result c.end.new.self)
+    subst (Answers c.end.result c.end.new.self c.args.parts.now.items c.end.new.parts.items)
     (ended_as s _ p c.execute-count.result.0 w (why.Fault c.in-Fault.fault) (sets s p w _ _ set.0 set.1)
     ∙ sym (executes_as s p c.args.quantum x (record { count = c.execute-count.result.0; machine = record { regs = c.execute-count.new.regs; bytes = c.execute-count.new.memory }; halt = Some (halt.Fault c.in-Fault.fault) }) was (c.execute-count.ensures ∙ ap (λ h. record { count = c.execute-count.result.0; machine = record { regs = c.execute-count.new.regs; bytes = c.execute-count.new.memory }; halt = h }) halted)))
     c.end.ensures
@@ -73,7 +73,7 @@ returns-in-None c =
     let w : Process = record x { regs = c.execute-count.new.regs; memory = c.execute-count.new.memory } in
     let was = sym c.process_mut.ensures.value ∙ ap option_copied_mut c.unwrap-process.ensures in
     let set = c.process_mut.follows.holds w (has_some _ x was) in
-    says_one _ (with_here s p w) (says (label.Ran p c.execute-count.result.0)) c.say.result _
+    says_one _ (with_here s p w) (says (label.Ran p c.execute-count.result.0)) c.say.result c.args.parts.now.items c.say.new.parts.items _
     (sym (executes_as s p c.args.quantum x (record { count = c.execute-count.result.0; machine = record { regs = c.execute-count.new.regs; bytes = c.execute-count.new.memory }; halt = None }) was (c.execute-count.ensures ∙ ap (λ h. record { count = c.execute-count.result.0; machine = record { regs = c.execute-count.new.regs; bytes = c.execute-count.new.memory }; halt = h }) c.in-None.is)))
     (sets s p w _ _ set.0 set.1)
     c.say.ensures

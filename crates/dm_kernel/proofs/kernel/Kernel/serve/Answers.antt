@@ -18,7 +18,7 @@ returns-in-Execute c =
     let o = at c.args.self.now.records c.args.pid in
     let h : IsHere (Serves s c.args.pid Execute) o = subst (λ (v : Service). IsHere (Serves s c.args.pid v) o) c.in-Execute.is c.requires.process in
     let ready : IsHere (λ (x : Process). x.status ≡ Ready) o = here_as (Serves s c.args.pid Execute) (λ (x : Process). x.status ≡ Ready) o (λ x m. m.does) h in
-    subst (Answers c.run.result c.run.new.self) (serves_ready c.args.quantum s c.args.pid o ready) c.run.ensures
+    subst (Answers c.run.result c.run.new.self c.args.parts.now.items c.run.new.parts.items) (serves_ready c.args.quantum s c.args.pid o ready) c.run.ensures
 
 pub receive-requires : goal.receive-requires
 receive-requires c =
@@ -35,4 +35,4 @@ returns-in-Receive c =
     let v = Receive c.in-Receive.mask c.in-Receive.place in
     let h : IsHere (Serves s c.args.pid v) o = subst (λ (v : Service). IsHere (Serves s c.args.pid v) o) c.in-Receive.is c.requires.process in
     let takes : IsHere (λ (x : Process). Takes x c.in-Receive.mask c.in-Receive.place) o = here_as (Serves s c.args.pid v) (λ (x : Process). Takes x c.in-Receive.mask c.in-Receive.place) o (λ x m. m.does) h in
-    subst (Answers c.receive.result c.receive.new.self) (serves_waiting c.args.quantum s c.args.pid c.in-Receive.mask c.in-Receive.place o takes) c.receive.ensures
+    subst (Answers c.receive.result c.receive.new.self c.args.parts.now.items c.receive.new.parts.items) (serves_waiting c.args.quantum s c.args.pid c.in-Receive.mask c.in-Receive.place o takes) c.receive.ensures

@@ -13,6 +13,6 @@ returns c =
     let new = c.take.new.self in
     let was : manager_in (at c.args.self.now.records p) ≡ Some x = sym c.manager_mut.ensures.value ∙ ap option_copied_mut c.unwrap.ensures in
     let set = c.manager_mut.follows.holds new (has_some _ x was) in
-    manager_has_taken c.took.result _ s c.args.message.now x new c.in_ok-sent.sent (manager_in (at c.args.self.now.records p)) was c.in_ok-sent.ensures.exact
+    manager_has_taken c.say_took.result _ c.args.parts.now.items c.say_took.new.parts.items s c.args.message.now x new c.in_ok-sent.sent (manager_in (at c.args.self.now.records p)) was c.in_ok-sent.ensures.exact
     (same_places s _ (with_record s.records p (Here (resident.Manager new))) _ s.preds set.0 set.1)
-    c.took.ensures
+    c.say_took.ensures

@@ -1,4 +1,5 @@
-use Rattle.dm_node.proofs.Names.{◌<◌, ◌∷◌, sym, ap, subst, ◌∙◌, Ok, into_iter_items, All-rest, IsLawfulPart, acts, routes, Answers, node_state}
+use Rattle.std.specs.Vec.Iter.{drain_items}
+use Rattle.dm_node.proofs.Names.{◌<◌, ◌∷◌, sym, ap, subst, ◌∙◌, Ok, All-rest, IsLawfulPart, acts, routes, Answers, node_state}
 use Rattle.dm_node.proofs.Parts.{all_done, gave_streams, line_said, message_routed, routed_counts}
 use Rattle.dm_node.proofs.node.Node.act.Goals as goal
 
@@ -15,14 +16,14 @@ pub loop-part-preserved : goal.loop-part-preserved
 loop-part-preserved c =
     let here = c.loop-part in
     let n = node_state here.self in
-    let left = into_iter_items c.next.new.self in
+    let left = drain_items c.next.new.self in
     let gave = c.in_ok-route-in-Routes.ensures in
     let is = c.in-Some.ensures.steps.0 ∙ ap (λ p. p ∷ left) c.in-Routes.is in
     let counts = routed_counts n c.route.new.self here.outs.items c.route.new.outs.items c.in-Routes.message here.invariant.home gave in
     record {
       can_next = tt;
       finite = tt;
-      fit = All-rest IsLawfulPart c.in-Some.part left (into_iter_items here.part-iterator) c.in-Some.ensures.steps.0 here.invariant.fit;
+      fit = All-rest IsLawfulPart c.in-Some.part left (drain_items here.part-iterator) c.in-Some.ensures.steps.0 here.invariant.fit;
       streams = gave_streams (routes n c.in-Routes.message) c.route.new.self here.outs.items c.route.new.outs.items gave;
       home = counts.home;
       numbers = counts.numbers ∙ here.invariant.numbers;
@@ -36,12 +37,12 @@ pub loop-part-preserved-in-Continue-1 : goal.loop-part-preserved-in-Continue-1
 loop-part-preserved-in-Continue-1 c =
     let here = c.loop-part in
     let n = node_state here.self in
-    let left = into_iter_items c.next.new.self in
+    let left = drain_items c.next.new.self in
     let is = c.in-Some.ensures.steps.0 ∙ ap (λ p. p ∷ left) c.in-Says.is in
     record {
       can_next = tt;
       finite = tt;
-      fit = All-rest IsLawfulPart c.in-Some.part left (into_iter_items here.part-iterator) c.in-Some.ensures.steps.0 here.invariant.fit;
+      fit = All-rest IsLawfulPart c.in-Some.part left (drain_items here.part-iterator) c.in-Some.ensures.steps.0 here.invariant.fit;
       streams = here.invariant.streams;
       home = here.invariant.home;
       numbers = here.invariant.numbers;
@@ -54,5 +55,5 @@ loop-part-preserved-in-Continue-1 c =
 pub returns : goal.returns
 returns c =
     let here = c.loop-part in
-    let left = here.part-iterator in
-    here.invariant.rest (Ok tt) here.self here.outs.items (all_done here.self here.outs.items (into_iter_items left) (sym left.rest.ok.0 ∙ c.in-None.ensures.steps.0) here.invariant.streams)
+    here.invariant.rest (Ok tt) _ here.outs.items
+    (all_done _ here.outs.items (drain_items here.part-iterator) c.in-None.ensures.steps.0 (record { senders = here.invariant.streams.senders; receivers = here.invariant.streams.receivers }))

@@ -1,5 +1,5 @@
 use Rattle.dm_kernel.proofs.Names.{◌≡◌, ◌++◌, map, into_iter_items, Routes}
-use Rattle.dm_kernel.proofs.depart.route_all.Given as goal
+use Rattle.dm_kernel.proofs.part.route_all.Given as goal
 
 -- what is added, with what is still to be added, is all
 abbrev pub invariant-loop-message : goal.invariant-loop-message
