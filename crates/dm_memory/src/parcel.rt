@@ -20,6 +20,9 @@ impl<T> Model for Parcel<T> {
 }
 
 impl<T> Parcel<T> {
+    ghost use Rattle.std.specs.Borrow.{Lends, sem};
+    ghost use Rattle.dm_memory.specs.contracts.parcel.Parcel.{the_row};
+
     /// Puts a value on the heap.
     pub fn new(alloc: Global, value: T) -> Result<Self, NoMemory>
     where
@@ -37,6 +40,14 @@ impl<T> Parcel<T> {
         ensures { result.now ≡ self.now }
     {
         &self.value
+    }
+
+    /// The value where it is, for writing.
+    pub fn get_mut(&mut self) -> &mut T
+        ensures* writes_back { sem 𝓛 (Lends (the_row T.row) T.row self.entry result (λ w. w)) }
+        ensures value { result.now ≡ self.old }
+    {
+        self.value.as_mut()
     }
 
     /// The value, taken off the heap.

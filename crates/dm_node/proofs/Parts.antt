@@ -1,7 +1,7 @@
 -- The parts of a turn, one after another.
-use Rattle.dm_node.proofs.Names.{◌≡◌, ℕ, suc, ◌≤◌, Bool, true, false, ◌==◌, List, [], ◌∷◌, ◌++◌, length, refl, sym, ap, subst, inl, inr, ◌∙◌, append_assoc, append-nil, arith, Result, ⊤, if◌then◌else◌, Option, None, Some, Ok, Err, eqb_tells}
-use Rattle.dm_node.proofs.Names.{Message, Line, Kernel, Part, KernelState, Turned, Sending, due, with_given, Node, Stop, Out, Says, NodeState, here, with_sender, Acts, Goes, Worn, behind, then_, acts, gives, is_worn, none_waits, routes}
-use Rattle.dm_node.proofs.Names.{routes_away, routes_home, sends_due, turns, Answers, AnswersSome, GaveActs, HasStreams, OrNoMemory, node_state}
+use Rattle.dm_node.proofs.Names.{◌≡◌, suc, List, [], ◌∷◌, ◌++◌, length, refl, sym, ap, subst, ◌∙◌, append_assoc, append-nil, Result, Option, None, Some, Ok, Err}
+use Rattle.dm_node.proofs.Names.{All, IsLawfulPart, IsLawfulTurned, Message, Line, Kernel, Part, Turned, Node, Stop, Out, Says, NodeState, Acts, Goes, Worn, behind, then_, acts, routes}
+use Rattle.dm_node.proofs.Names.{turns, Answers, AnswersSome, GaveActs, HasStreams, OrNoMemory, node_state}
 use Rattle.dm_kernel.specs.declared.part.Part.TheVariants as part
 use Rattle.dm_kernel.specs.Meets as kernel
 use Rattle.dm_node.specs.declared.stop.Stop.TheVariants as stop
@@ -44,48 +44,6 @@ pub gave_streams : (a : Acts) (after : Node) (old new : List Out) → GaveActs a
 gave_streams (Goes a) after old new g = g.streams
 gave_streams (Worn x y) after old new g = absurd g
 
--- how many messages a machine has routed to itself stays within what it may
-pub record Counts (n : NodeState) (most : ℕ) : Type 0 where
-  pub home : n.home ≤ n.numbers
-  pub numbers : n.numbers ≡ most
-
-abbrev pub CountsIn : ℕ → Acts → Type 0
-CountsIn most (Goes a) = Counts a.state most
-CountsIn most (Worn x y) = ⊤
-
-due_counts : (n : NodeState) (b : ℕ) (d : Option (ℕ × Message)) → n.home ≤ n.numbers → Counts (sends_due n b d).state n.numbers
-due_counts n b None h = record { home = h; numbers = refl }
-due_counts n b (Some p) h = record { home = h; numbers = refl }
-
-gives_counts : (n : NodeState) (b : ℕ) (m : Message) (s : Sending Message) (none : Bool) → n.home ≤ n.numbers → CountsIn n.numbers (gives n b m s none)
-gives_counts n b m s true h = due_counts (with_sender n b (with_given s m)) b (due (with_given s m)) h
-gives_counts n b m s false h = record { home = h; numbers = refl }
-
-away_counts : (n : NodeState) (b : ℕ) (m : Message) (s : Sending Message) (worn : Bool) → n.home ≤ n.numbers → CountsIn n.numbers (if worn then Worn (here n) b else gives n b m s (none_waits s))
-away_counts n b m s true h = tt
-away_counts n b m s false h = gives_counts n b m s (none_waits s) h
-
-home_counts : (n : NodeState) (m : Message) → n.home ≤ n.numbers → CountsIn n.numbers (routes_home n m (n.home == n.numbers))
-home_counts n m h =
-    elim (eqb_tells n.home n.numbers) [
-      | inl e ↦ subst (λ c. CountsIn n.numbers (routes_home n m c)) (sym e.0) tt
-      | inr e ↦ subst (λ c. CountsIn n.numbers (routes_home n m c)) (sym e.0) (let d = e.1 in record { home = omega (arith, d); numbers = refl })
-    ]
-
-pub routes_counts : (n : NodeState) (m : Message) → n.home ≤ n.numbers → CountsIn n.numbers (routes n m)
-routes_counts n m h =
-    elim (m.to.at == here n) as (λ c. CountsIn n.numbers (if c then routes_home n m (n.home == n.numbers) else routes_away n m.to.at m (n.senders m.to.at))) [
-      | true ↦ home_counts n m h
-      | false ↦ away_counts n m.to.at m (n.senders m.to.at) (is_worn (n.senders m.to.at)) h
-    ]
-
-gave_counts : (a : Acts) (numbers : ℕ) (after : Node) (old new : List Out) → GaveActs after old new a → CountsIn numbers a → Counts (node_state after) numbers
-gave_counts (Goes a) numbers after old new g c = subst (λ s. Counts s numbers) (sym g.state) c
-gave_counts (Worn x y) numbers after old new g c = absurd g
-
-pub routed_counts : (n : NodeState) (after : Node) (old new : List Out) (m : Message) → n.home ≤ n.numbers → GaveActs after old new (routes n m) → Counts (node_state after) n.numbers
-routed_counts n after old new m h g = gave_counts (routes n m) n.numbers after old new g (routes_counts n m h)
-
 -- the kernel's turn, then what comes of its parts
 some_answered : (r : Result Unit Stop) (after : Node) (old new : List Out) (a : Acts) → Answers r after old new a → AnswersSome r after old new (Some a)
 some_answered (Ok done) after old new a g = g
@@ -105,3 +63,8 @@ pub or_no_memory : {X : Type 0} (r : Result X Stop) (P : Type 0) → P → OrNoM
 or_no_memory (Ok done) P h = h
 or_no_memory (Err (stop.Worn from to)) P h = h
 or_no_memory (Err (stop.NoMemory e)) P h = tt
+
+-- what an event of the kernel says and routes is lawful, as all that it gives
+pub lawful_parts : (k : Kernel) (ps : List Part) (o : Option Turned) → kernel.MeetsSome k ps o → ((t : Turned) → o ≡ Some t → IsLawfulTurned t) → All IsLawfulPart ps
+lawful_parts k ps None h f = absurd h
+lawful_parts k ps (Some t) h f = subst (All IsLawfulPart) (sym h.parts) (f t refl).parts.each

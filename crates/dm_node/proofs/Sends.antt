@@ -15,13 +15,13 @@ use Rattle.dm_node.proofs.Here.{calls_off_stays}
 use Rattle.dm_kernel.specs.Turn as kernel
 use Rattle.dm_node.specs.Acts.{asks_move, turn}
 use Rattle.dm_node.proofs.Here.{StaysAt, asks_move_stays, turn_stays}
-use Rattle.dm_node.proofs.Staying.{MayAfter, routes_may, with_sender_may}
+use Rattle.dm_node.proofs.Staying.{MayAfter, routes_may, with_kernel_may, with_sender_may}
 
 abbrev pub Lawfully : ℕ → Acts → Type 0
 Lawfully m (Goes a) = ActsLawfully m a
 Lawfully m (Worn x y) = ⊤
 
-route_of : (a b : ℕ) → a < 16 → b < 16 → b ≢ a → IsRoute a b
+pub route_of : (a b : ℕ) → a < 16 → b < 16 → b ≢ a → IsRoute a b
 route_of a b h k apart = record { from = omega arith; to = omega arith; apart = apart }
 
 data_out : (m b k : ℕ) (w : Message) → IsRoute m b → IsLawfulMessage w → IsLawfulOut m (Sends (packet.Data m b k w))
@@ -113,15 +113,12 @@ acts_lawfully m n (part.Routes w ∷ ps) e fit h =
     then_lawfully m (routes n w) (λ next. acts next ps) (subst (λ k. Lawfully k (routes n w)) e (routes_lawfully n w l h)) (routes_may n w l h)
     (λ s f g. acts_lawfully m s ps f (All-tail IsLawfulPart (part.Routes w) ps fit) g)
 
-with_kernel_may : (n : NodeState) (t : Turned) → t.state.here ≡ here n → MayAct n → MayAct (record n { kernel = t.state })
-with_kernel_may n t same h = record { here = subst (λ k. k < 16) (sym same) h.here; machines = h.machines; numbers = h.numbers; home = h.home; unacked = h.unacked }
-
 some_lawfully : (n : NodeState) (o : Option Turned) (a : Acted) → turns n o ≡ Some (Goes a) → StaysAt (here n) o → ((t : Turned) → o ≡ Some t → IsLawfulTurned t) → MayAct n
     → ActsLawfully (here n) a
 some_lawfully n None a e stays lawful h = absurd (cc)
 some_lawfully n (Some t) a e stays lawful h =
     let is : acts (record n { kernel = t.state }) t.parts ≡ Goes a = cc in
-    subst (Lawfully (here n)) is (acts_lawfully (here n) (record n { kernel = t.state }) t.parts stays (lawful t refl).parts.each (with_kernel_may n t stays h))
+    subst (Lawfully (here n)) is (acts_lawfully (here n) (record n { kernel = t.state }) t.parts stays (lawful t refl).parts.each (with_kernel_may n t.state stays h))
 
 pub turns_lawfully : (b : Boot) (n : NodeState) (a : Acted) → images_are_valid b.images ≡ true → MayTurn b n → IsLawfulState n.kernel → turn b n ≡ Some (Goes a) → ActsLawfully (here n) a
 turns_lawfully b n a images may lawful e =
@@ -177,7 +174,7 @@ unfolding takes_kept
 kept_lawfully zero m n a e = record { here = e; outs = none_out m }
 kept_lawfully (suc k) m n a e = next_lawfully m n a (next (n.receivers a)) (λ s. takes_kept k s a) e (λ s f. kept_lawfully k m s a f)
 
-in_lawfully : (m : ℕ) (n : NodeState) (a k : ℕ) (x : Arrived Message) → here n ≡ m → ActsLawfully m (comes_in n a k x)
+pub in_lawfully : (m : ℕ) (n : NodeState) (a k : ℕ) (x : Arrived Message) → here n ≡ m → ActsLawfully m (comes_in n a k x)
 in_lawfully m n a k (Taken w) e =
     let r : ActsLawfully m (takes_kept window (with_message n w) a) = kept_lawfully window m (with_message n w) a e in
     record { here = r.here; outs = All-cons (IsLawfulOut m) (Says (line.Taken a (here n) k)) (takes_kept window (with_message n w) a).outs tt r.outs }

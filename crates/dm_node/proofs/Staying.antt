@@ -1,10 +1,13 @@
 -- What the events of a machine count on stays: what waits to be acknowledged can be put into packets.
 use Rattle.dm_node.proofs.Names.{◌≡◌, ℕ, zero, suc, ◌-◌, ◌<◌, Bool, true, false, ◌==◌, List, [], ◌∷◌, sym, subst, inl, inr, arith, ⊤, if◌then◌else◌, All, Option, None, Some, eqb_tells, All-drop, All-head, All-push, All-tail, Message}
-use Rattle.dm_node.proofs.Names.{IsLawfulMessage, Part, IsLawfulPart, Turned, Packet, Load, Data, Ack, Sending, due, window, with_acked, with_given, with_sent, Receiving, after_arrival, after_next, arrival, next, Arrived, Taken, Old, Early}
-use Rattle.dm_node.proofs.Names.{Out, NodeState, here, with_message, with_receiver, with_sender, Acted, Acts, Goes, Worn, behind, then_, acts, arrives, arrives_packet, comes_in, gives, is_worn, lets_go, lets_next, none_waits, routes}
-use Rattle.dm_node.proofs.Names.{routes_away, routes_home, sends_due, takes_kept, takes_next, MayAct, MayArrive, MayArrivePacket}
+use Rattle.dm_node.proofs.Names.{IsLawfulMessage, Part, IsLawfulPart, Turned, Load, Data, Ack, Sending, due, window, with_acked, with_given, with_sent, Receiving, after_arrival, after_next, arrival, next, Arrived, Taken, Old, Early}
+use Rattle.dm_node.proofs.Names.{Out, NodeState, here, with_message, with_receiver, with_sender, Acted, Acts, Goes, Worn, behind, then_, acts, arrives, comes_in, gives, is_worn, lets_go, lets_next, none_waits, routes}
+use Rattle.dm_node.proofs.Names.{routes_away, routes_home, sends_due, takes_kept, takes_next, MayAct, MayArrive}
+use Rattle.dm_node.proofs.Names.{refl, Kernel, KernelState, Node, GaveActs, node_state}
+use Rattle.dm_kernel.specs.Meets as kernel
+use Rattle.dm_node.proofs.Here.{StaysAt}
+use Rattle.dm_node.proofs.Parts.{kernel_is}
 use Rattle.dm_kernel.specs.declared.part.Part.TheVariants as part
-use Rattle.dm_packet.specs.declared.Packet.TheVariants as packet
 use Rattle.dm_node.specs.declared.out.Out.TheVariants as out
 
 abbrev pub MayAfter : Acts → Type 0
@@ -27,16 +30,32 @@ with_receiver_may n a r h = record { here = h.here; machines = h.machines; numbe
 with_message_may : (n : NodeState) (m : Message) → MayAct n → MayAct (with_message n m)
 with_message_may n m h = record { here = h.here; machines = h.machines; numbers = h.numbers; home = h.home; unacked = h.unacked }
 
+-- a kernel of the same machine, as a turn leaves it
+pub with_kernel_may : (n : NodeState) (s : KernelState) → s.here ≡ here n → MayAct n → MayAct (record n { kernel = s })
+with_kernel_may n s same h = record { here = subst (λ k. k < 16) (sym same) h.here; machines = h.machines; numbers = h.numbers; home = h.home; unacked = h.unacked }
+
+pub turned_may : (n : NodeState) (k : Kernel) (parts : List Part) (o : Option Turned) → kernel.MeetsSome k parts o → StaysAt (here n) o → MayAct n → MayAct (record n { kernel = kernel.kernel_state k })
+turned_may n k parts None met stays h = absurd met
+turned_may n k parts (Some t) met stays h = subst (λ s. MayAct (record n { kernel = s })) (sym (kernel_is k t.state met.state)) (with_kernel_may n t.state stays h)
+
 -- a message that is due goes out
-due_may : (n : NodeState) (b : ℕ) (d : Option (ℕ × Message)) → b < 16 → MayAct n → MayAct (sends_due n b d).state
+pub due_may : (n : NodeState) (b : ℕ) (d : Option (ℕ × Message)) → b < 16 → MayAct n → MayAct (sends_due n b d).state
 due_may n b None k h = h
 due_may n b (Some p) k h = with_sender_may n b (with_sent (n.senders b)) h (h.unacked b k)
+
+pub due_here : (n : NodeState) (b : ℕ) (d : Option (ℕ × Message)) → here (sends_due n b d).state ≡ here n
+due_here n b None = refl
+due_here n b (Some p) = refl
+
+-- a message is given to a stream
+pub given_may : (n : NodeState) (b : ℕ) (m : Message) → b < 16 → IsLawfulMessage m → MayAct n → MayAct (with_sender n b (with_given (n.senders b) m))
+given_may n b m k l h = with_sender_may n b (with_given (n.senders b) m) h (All-push IsLawfulMessage (n.senders b).unacked m (h.unacked b k) l)
 
 -- a message is routed
 gives_may : (n : NodeState) (b : ℕ) (m : Message) (none : Bool) → b < 16 → IsLawfulMessage m → MayAct n → MayAfter (gives n b m (n.senders b) none)
 gives_may n b m none k l h =
     let s = with_given (n.senders b) m in
-    let given : MayAct (with_sender n b s) = with_sender_may n b s h (All-push IsLawfulMessage (n.senders b).unacked m (h.unacked b k) l) in
+    let given : MayAct (with_sender n b s) = given_may n b m k l h in
     elim none as (λ c. MayAfter (gives n b m (n.senders b) c)) [ true ↦ due_may (with_sender n b s) b (due s) k given | false ↦ given ]
 
 away_may : (n : NodeState) (b : ℕ) (m : Message) → b < 16 → IsLawfulMessage m → MayAct n → MayAfter (routes_away n b m (n.senders b))
@@ -63,6 +82,11 @@ routes_may n m l h =
       | false ↦ away_may n m.to.at m k l h
     ]
 
+-- the machine of the code, once it has given this
+pub gave_may : (a : Acts) (after : Node) (old new : List Out) → GaveActs after old new a → MayAfter a → MayAct (node_state after)
+gave_may (Goes a) after old new g h = subst MayAct (sym g.state) h
+gave_may (Worn x y) after old new g h = absurd g
+
 behind_may : (outs : List Out) (a : Acts) → MayAfter a → MayAfter (behind outs a)
 behind_may outs (Goes a) h = h
 behind_may outs (Worn x y) h = tt
@@ -81,8 +105,7 @@ acts_may n (part.Routes m ∷ ps) fit h =
 -- a turn of a kernel that stays on its machine
 pub turn_may : (n : NodeState) (t : Turned) → t.state.here ≡ here n → All IsLawfulPart t.parts → MayAct n → MayAfter (acts (record n { kernel = t.state }) t.parts)
 turn_may n t same fit h =
-    acts_may (record n { kernel = t.state }) t.parts fit
-    (record { here = subst (λ k. k < 16) (sym same) h.here; machines = h.machines; numbers = h.numbers; home = h.home; unacked = h.unacked })
+    acts_may (record n { kernel = t.state }) t.parts fit (with_kernel_may n t.state same h)
 
 -- messages that came early are taken
 next_may : (n : NodeState) (a : ℕ) (o : Option Message) (go : NodeState → Acted) → MayAct n → ((s : NodeState) → MayAct s → MayAct (go s).state) → MayAct (takes_next n a o go).state

@@ -1,4 +1,5 @@
 pub mod State
+pub mod Encoded
 pub mod Out
 pub mod Acts
 pub mod Contents

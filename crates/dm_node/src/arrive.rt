@@ -1,11 +1,13 @@
 //! What comes of a packet that arrives.
 ghost use Rattle.std.specs.Prelude.{◌≡◌, ◌<◌, ◌≤◌, ◌^◌, ◌++◌, ◌∷◌, [], OnOk};
+ghost use Rattle.dm_packet.specs.Lawful.{IsRoute};
 ghost use Rattle.dm_stream.specs.Packets.{Ack, Data};
 ghost use Rattle.dm_stream.specs.Sending.{window};
 ghost use Rattle.dm_node.specs.Acts.{acknowledges, arrives, arrives_packet, comes_in, takes_kept};
 ghost use Rattle.dm_node.specs.May.{MayArrive, MayArrivePacket};
 ghost use Rattle.dm_node.specs.Meets.{Gave, HasStreams, node_state};
 
+use crate::encoded::Encoded;
 use crate::envelope::{Contents, Envelope};
 use crate::node::Node;
 use crate::out::Out;
@@ -14,7 +16,6 @@ use dm_line::line::Line;
 use dm_link::MACHINES;
 use dm_memory::{NoMemory, Parcel};
 use dm_message::Message;
-use dm_packet::Packet;
 use dm_stream::{Arrived, WINDOW};
 
 impl Node {
@@ -136,16 +137,12 @@ impl Node {
 
     /// Acknowledges all that was taken of machine `to`'s messages.
     fn acknowledge(&self, to: u8, outs: &mut Vec<Out>) -> Result<(), NoMemory>
-        requires to { to < MACHINES }
+        requires route { IsRoute self.now.kernel.here to }
         requires streams { HasStreams self.now }
         ensures { OnOk result (outs.new.items ≡ outs.old.items ++ acknowledges (node_state self.now) to) }
     {
-        let acknowledgement = Packet::Ack {
-            from: self.kernel.here(),
-            to,
-            count: self.count(to),
-        };
-        push(outs, Out::Sends(Parcel::new(self.alloc, acknowledgement)?))
+        let acknowledgement = Encoded::ack(self.alloc, self.kernel.here(), to, self.count(to))?;
+        push(outs, Out::Sends(acknowledgement))
     }
 
     /// Machine `from` has taken the first `count` messages: those that wait go out, as far as the window allows.

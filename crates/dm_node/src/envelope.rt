@@ -1,11 +1,12 @@
 //! A packet that has come, with its message on the heap.
 ghost use Rattle.std.specs.Prelude.{◌≡◌, IfOk, IsOk, Ok};
 ghost use Rattle.dm_packet.specs.Packets.{packet_of};
+ghost use Rattle.dm_packet.specs.Parts.{read_numbered};
 ghost use Rattle.dm_node.specs.Contents.{packet_in};
 
 use dm_memory::{NoMemory, Parcel};
 use dm_message::Message;
-use dm_packet::{Packet, decode};
+use dm_packet::{Opened, numbered_at, opened_at, room};
 use std::alloc::Global;
 use std::marker::Model;
 
@@ -47,27 +48,19 @@ impl Envelope {
         requires { IsOk (packet_of bytes.now) }
         ensures { IfOk result (λ e. packet_of bytes.now ≡ Ok e) }
     {
-        match decode(bytes).unwrap() {
-            Packet::Data {
-                from,
-                to,
-                seq,
-                message,
-            } => {
-                let message = Parcel::new(alloc, message)?;
-                let contents = Contents::Data {
+        let contents = match opened_at(bytes).unwrap() {
+            Opened::Data { from, to, behind } => {
+                let (seq, message) = numbered_in(alloc, behind)?;
+                Contents::Data {
                     from,
                     to,
                     seq,
                     message,
-                };
-                Ok(Envelope { contents })
+                }
             }
-            Packet::Ack { from, to, count } => {
-                let contents = Contents::Ack { from, to, count };
-                Ok(Envelope { contents })
-            }
-        }
+            Opened::Ack { from, to, count } => Contents::Ack { from, to, count },
+        };
+        Ok(Envelope { contents })
     }
 
     /// What the packet carries.
@@ -77,4 +70,15 @@ impl Envelope {
         let Envelope { contents } = self;
         contents
     }
+}
+
+/// The number of a message, and the message, read into its place on the heap.
+#[inline(never)]
+fn numbered_in(alloc: Global, bytes: &[u8]) -> Result<(u32, Parcel<Message>), NoMemory>
+    requires { IsOk (read_numbered bytes.now) }
+    ensures { IfOk result (λ x. read_numbered bytes.now ≡ Ok x) }
+{
+    let mut message = Parcel::new(alloc, room())?;
+    let seq = numbered_at(bytes, message.get_mut()).unwrap();
+    Ok((seq, message))
 }

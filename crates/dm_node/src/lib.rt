@@ -4,6 +4,7 @@
 
 mod arrive;
 mod begin;
+pub mod encoded;
 mod ends;
 pub mod envelope;
 mod law;
@@ -16,6 +17,7 @@ mod streams;
 mod turn;
 
 pub use dm_memory::NoMemory;
+pub use encoded::Encoded;
 pub use envelope::Envelope;
 pub use law::events_send_lawfully;
 pub use node::Node;

@@ -1,7 +1,6 @@
 //! What an event of a machine gives to the outside.
+use crate::encoded::Encoded;
 use dm_line::line::Line;
-use dm_memory::Parcel;
-use dm_packet::Packet;
 
 /// What an event of a machine gives to the outside.
 #[derive(Drop)]
@@ -9,5 +8,5 @@ pub enum Out {
     /// A printed line.
     Says(Line),
     /// A packet for another machine's wire, which has a line too.
-    Sends(Parcel<Packet>),
+    Sends(Encoded),
 }

@@ -1,7 +1,10 @@
 //! How a message is routed to the machine that its receiver's address names.
 ghost use Rattle.std.specs.Prelude.{◌≡◌, ◌<◌, ◌≤◌, ◌^◌, ◌++◌, ◌∷◌, ◌==◌, [], IfOk, OnOk, is_some};
+ghost use Rattle.dm_message.specs.Lawful.{IsLawfulMessage};
+ghost use Rattle.dm_packet.specs.Lawful.{IsRoute};
 ghost use Rattle.dm_stream.specs.Sending.{due, given_count, with_given, with_sent};
 ghost use Rattle.dm_node.specs.Acts.{gives, put_line, routes, routes_away, routes_home, sends_due};
+ghost use Rattle.dm_node.specs.May.{MayAct};
 ghost use Rattle.dm_node.specs.Meets.{Answers, Gave, HasStreams, node_state};
 ghost use Rattle.dm_node.specs.Out.{Goes};
 
@@ -9,7 +12,6 @@ use crate::node::Node;
 use crate::out::Out;
 use crate::stop::Stop;
 use dm_line::line::Line;
-use dm_link::MACHINES;
 use dm_memory::{NoMemory, Parcel};
 use dm_message::Message;
 
@@ -20,10 +22,9 @@ impl Node {
         message: Parcel<Message>,
         outs: &mut Vec<Out>,
     ) -> Result<(), Stop>
+        requires may { MayAct (node_state self.old) }
         requires streams { HasStreams self.old }
-        requires to { message.to.at < MACHINES }
-        requires home { self.old.home ≤ self.old.numbers }
-        requires numbers { self.old.numbers < 2 ^ 32 }
+        requires lawful { IsLawfulMessage message }
         ensures { Answers result self.new outs.old.items outs.new.items (routes (node_state self.old) message) }
     {
         if message.get().to.at == self.kernel.here() {
@@ -70,8 +71,10 @@ impl Node {
 
     /// Routes a message to another machine: it goes out at once where none waits before it, and the window isn't full.
     fn route_away(&mut self, message: Parcel<Message>, outs: &mut Vec<Out>) -> Result<(), Stop>
+        requires may { MayAct (node_state self.old) }
         requires streams { HasStreams self.old }
-        requires to { message.to.at < MACHINES }
+        requires lawful { IsLawfulMessage message }
+        requires route { IsRoute self.old.kernel.here message.to.at }
         ensures { Answers result self.new outs.old.items outs.new.items
             (routes_away (node_state self.old) message.to.at message ((node_state self.old).senders message.to.at)) }
     {
@@ -89,14 +92,15 @@ impl Node {
 
     /// Sends the packet that is due to machine `to`, if there is one; whether there was.
     pub(crate) fn send_due(&mut self, to: u8, outs: &mut Vec<Out>) -> Result<bool, NoMemory>
+        requires may { MayAct (node_state self.old) }
         requires streams { HasStreams self.old }
-        requires to { to < MACHINES }
+        requires route { IsRoute self.old.kernel.here to }
         ensures gave { OnOk result (Gave self.new outs.old.items outs.new.items (sends_due (node_state self.old) to (due ((node_state self.old).senders to)))) }
         ensures was { IfOk result (λ sent. sent ≡ is_some (due ((node_state self.old).senders to))) }
     {
-        match self.due(to) {
+        match self.due(to)? {
             Some(packet) => {
-                push(outs, Out::Sends(Parcel::new(self.alloc, packet)?))?;
+                push(outs, Out::Sends(packet))?;
                 self.sent_due(to);
                 Ok(true)
             }

@@ -1,5 +1,8 @@
 //! The ends of a machine's streams, by machine.
-ghost use Rattle.std.specs.Prelude.{◌≡◌, ◌<◌, ◌≤◌, ◌+◌, ◌-◌, ◌^◌, ◌↔◌, IfErr, IsSome, OnOk, Err, length, ℕ};
+ghost use Rattle.std.specs.Prelude.{◌≡◌, ◌<◌, ◌≤◌, ◌+◌, ◌-◌, ◌^◌, ◌↔◌, IfErr, IfOk, IsSome, OnOk, Err, length, ℕ};
+ghost use Rattle.std.specs.List.{All};
+ghost use Rattle.dm_message.specs.Lawful.{IsLawfulMessage};
+ghost use Rattle.dm_packet.specs.Lawful.{IsRoute};
 ghost use Rattle.dm_stream.specs.Sending.{due, given_count, outstanding, with_acked, with_given, with_sent};
 ghost use Rattle.dm_stream.specs.Receiving.{after_arrival, after_next, arrival, next};
 ghost use Rattle.dm_stream.specs.Returned.{message_in};
@@ -9,10 +12,11 @@ ghost use Rattle.dm_node.specs.Out.{numbered};
 ghost use Rattle.dm_node.specs.Meets.{receiver_at, sender_at};
 ghost use Rattle.dm_line.specs.Sets.{at_machine};
 
-use dm_memory::Parcel;
+use crate::encoded::Encoded;
+use dm_memory::{NoMemory, Parcel};
 use dm_message::Message;
-use dm_packet::Packet;
 use dm_stream::{Arrived, GiveError, Receiver, Sender, WINDOW};
+use std::alloc::Global;
 
 /// Whether all messages to machine `to` have gone out.
 pub fn none_waits(senders: &[Sender<Parcel<Message>>], to: u8) -> bool
@@ -39,18 +43,20 @@ pub fn give(
 }
 
 /// The packet that is due on the stream from machine `here` to machine `to`.
-pub fn due(senders: &[Sender<Parcel<Message>>], here: u8, to: u8) -> Option<Packet>
-    requires { to < length senders.now }
-    ensures { result ≡ numbered here to (due (sender_at senders.now to)) }
+pub fn due(
+    alloc: Global,
+    senders: &[Sender<Parcel<Message>>],
+    here: u8,
+    to: u8,
+) -> Result<Option<Encoded>, NoMemory>
+    requires within { to < length senders.now }
+    requires route { IsRoute here to }
+    requires lawful { All IsLawfulMessage (sender_at senders.now to).unacked }
+    ensures { IfOk result (λ packet. packet ≡ numbered here to (due (sender_at senders.now to))) }
 {
     match senders[usize::from(to)].due() {
-        Some((seq, message)) => Some(Packet::Data {
-            from: here,
-            to,
-            seq,
-            message: message.get().copied(),
-        }),
-        None => None,
+        Some((seq, message)) => Ok(Some(Encoded::data(alloc, here, to, seq, message.get())?)),
+        None => Ok(None),
     }
 }
 
@@ -66,22 +72,20 @@ pub fn sent_due(senders: &mut [Sender<Parcel<Message>>], to: u8)
 
 /// The packet at a place among those that are out from machine `here` to machine `to`.
 pub fn outstanding(
+    alloc: Global,
     senders: &[Sender<Parcel<Message>>],
     here: u8,
     to: u8,
     place: usize,
-) -> Option<Packet>
-    requires { to < length senders.now }
-    ensures { result ≡ numbered here to (outstanding (sender_at senders.now to) place) }
+) -> Result<Option<Encoded>, NoMemory>
+    requires within { to < length senders.now }
+    requires route { IsRoute here to }
+    requires lawful { All IsLawfulMessage (sender_at senders.now to).unacked }
+    ensures { IfOk result (λ packet. packet ≡ numbered here to (outstanding (sender_at senders.now to) place)) }
 {
     match senders[usize::from(to)].outstanding(place) {
-        Some((seq, message)) => Some(Packet::Data {
-            from: here,
-            to,
-            seq,
-            message: message.get().copied(),
-        }),
-        None => None,
+        Some((seq, message)) => Ok(Some(Encoded::data(alloc, here, to, seq, message.get())?)),
+        None => Ok(None),
     }
 }
 

@@ -1,7 +1,8 @@
 //! A turn and a tick of a machine.
-ghost use Rattle.std.specs.Prelude.{◌≡◌, ◌<◌, ◌≤◌, ◌+◌, ◌^◌, ◌++◌, [], IfOk, true, OnOk};
+ghost use Rattle.std.specs.Prelude.{◌≡◌, ◌<◌, ◌≤◌, ◌+◌, ◌++◌, IfOk, true, OnOk};
 ghost use Rattle.std.specs.List.{All};
 ghost use Rattle.dm_onekernel.specs.Boot.{images_are_valid};
+ghost use Rattle.dm_packet.specs.Lawful.{IsRoute};
 ghost use Rattle.dm_kernel.specs.Carried.{FreezesWhole};
 ghost use Rattle.dm_kernel.specs.Lawful.{IsLawfulPart, IsLawfulState};
 ghost use Rattle.dm_node.specs.Acts.{acts, all_out, asks_move, calls_off, count_out, counts_out, first_out, tick, turn};
@@ -15,7 +16,7 @@ use crate::stop::Stop;
 use dm_kernel::{Part, calls_off_lawfully, moves_are_asked_lawfully, turns_are_lawful};
 use dm_line::line::Line;
 use dm_link::{MACHINES, Pid};
-use dm_memory::{NoMemory, Parcel};
+use dm_memory::NoMemory;
 use dm_onekernel::Boot;
 
 impl Node {
@@ -70,10 +71,9 @@ impl Node {
 
     /// Prints and routes the parts of a turn, in order.
     fn act(&mut self, parts: Vec<Part>, outs: &mut Vec<Out>) -> Result<(), Stop>
+        requires may { MayAct (node_state self.old) }
         requires streams { HasStreams self.old }
         requires parts { All IsLawfulPart parts.items }
-        requires home { self.old.home ≤ self.old.numbers }
-        requires numbers { self.old.numbers < 2 ^ 32 }
         ensures { Answers result self.new outs.old.items outs.new.items (acts (node_state self.old) parts.items) }
     {
         for part in parts {
@@ -121,14 +121,15 @@ impl Node {
 
     /// Sends all packets again that are out to machine `to`.
     fn send_again(&self, to: u8, outs: &mut Vec<Out>) -> Result<(), NoMemory>
+        requires may { MayAct (node_state self.now) }
         requires streams { HasStreams self.now }
-        requires to { to < MACHINES }
+        requires route { IsRoute self.now.kernel.here to }
         ensures { OnOk result (outs.new.items ≡ outs.old.items ++ first_out (node_state self.now) to (count_out ((node_state self.now).senders to))) }
     {
         let count = self.count_out(to);
         for place in 0..count {
-            if let Some(packet) = self.outstanding(to, place as usize) {
-                push(outs, Out::Sends(Parcel::new(self.alloc, packet)?))?;
+            if let Some(packet) = self.outstanding(to, place as usize)? {
+                push(outs, Out::Sends(packet))?;
             }
         }
         Ok(())

@@ -6,6 +6,7 @@ pub mod Fields
 pub mod Coded
 pub mod Whats
 pub mod Packets
+pub mod Parts
 pub mod Writes
 pub mod Sizes
 pub mod Worked

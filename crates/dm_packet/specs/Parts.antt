@@ -1,31 +1,60 @@
 -- What readers of the code answer that put what a message carries where they are told, and the parts of a packet.
-use Rattle.std.specs.Prelude.{◌≡◌, ℕ, List, Ok, Err}
+use Rattle.std.specs.Prelude.{◌≡◌, ℕ, false, List, length, ◌==◌, if◌then◌else◌, Ok, Err}
 use Rattle.std.specs.declared.result.Result.{Result}
 use denote.Ref.{Bor}
+use Rattle.dm_link.specs.declared.Addr.{Addr}
+use Rattle.dm_message.specs.declared.Message.{Message}
 use Rattle.dm_message.specs.declared.What.{What}
+use Rattle.dm_message.specs.declared.What.TheVariants.{Stop}
 use Rattle.dm_packet.specs.declared.PacketError.{PacketError}
+use Rattle.dm_packet.specs.declared.PacketError.TheVariants as bad
 use Rattle.dm_packet.specs.declared.Packet.{Packet}
 use Rattle.dm_packet.specs.declared.Packet.TheVariants.{Data, Ack}
-use Rattle.dm_packet.specs.declared.front.Front.{Front}
-use Rattle.dm_packet.specs.declared.front.Front.TheVariants as front
+use Rattle.dm_packet.specs.declared.front.Opened.{Opened}
+use Rattle.dm_packet.specs.declared.front.Opened.TheVariants as opened
 use Rattle.dm_packet.specs.declared.front.PacketKind.{PacketKind}
 use Rattle.dm_packet.specs.Field.{◌>>=◌}
-use Rattle.dm_packet.specs.Packets.{only_packet, read_rest, with_head}
+use Rattle.dm_packet.specs.Packets.{numbered_message, only_packet, read_rest}
 
 -- it is what reading gives: what the message carries and the bytes behind it, or the rule that is broken
 abbrev pub ReadsInto : Result (Bor (List ℕ)) PacketError → What → Result (What × List ℕ) PacketError → Type 0
 ReadsInto (Ok rest) what read = read ≡ Ok (what, rest.now)
 ReadsInto (Err e) what read = read ≡ Err e
 
--- the packet with this front whose message, if it has one, carries this
-abbrev pub packet_with : Front → What → Packet
-packet_with (front.Data from to seq head) what = Data from to seq (with_head head what)
-packet_with (front.Ack from to count) what = Ack from to count
+-- nobody's address
+abbrev pub nobody : Addr
+nobody = record { pid = record { home = 0; num = 0 }; at = 0; moves = 0 }
 
--- it is what reading gives: the parts of the packet, or the rule that is broken
-abbrev pub ReadsParts : Result Front PacketError → What → Result Packet PacketError → Type 0
-ReadsParts (Ok f) what read = read ≡ Ok (packet_with f what)
-ReadsParts (Err e) what read = read ≡ Err e
+-- room for a message, to be read over
+abbrev pub blank : Message
+blank = record { id = record { from = nobody.pid; n = 0; answer = false }; to = nobody; sender = nobody; what = Stop }
+
+-- what was read, where nothing stands behind it
+abbrev pub only : {X : Type 0} → X × List ℕ → Result X PacketError
+only x = if length x.1 == 0 then Ok x.0 else Err bad.Trailing
+
+-- a number and a message, behind which nothing stands
+abbrev pub read_numbered : List ℕ → Result (ℕ × Message) PacketError
+read_numbered bytes = numbered_message.read bytes >>= only
+
+-- it is what reading gives: the number and the message, or the rule that is broken
+abbrev pub ReadsNumbered : Result ℕ PacketError → Message → Result (ℕ × Message) PacketError → Type 0
+ReadsNumbered (Ok n) m read = read ≡ Ok (n, m)
+ReadsNumbered (Err e) m read = read ≡ Err e
+
+-- the packet from one machine to another that these bytes are, behind its front
+abbrev pub data_behind : ℕ → ℕ → List ℕ → Result Packet PacketError
+data_behind from to bytes = read_numbered bytes >>= λ x. Ok (Data from to x.0 x.1)
+
+-- what reading gives, where the front is this
+abbrev pub opened_as : Opened → Result Packet PacketError
+opened_as (opened.Data from to behind) = data_behind from to behind.now
+opened_as (opened.Ack from to count) = Ok (Ack from to count)
+
+-- it is what reading gives: what is behind the front, or the rule that is broken
+abbrev pub Opens : Result Opened PacketError → Result Packet PacketError → Type 0
+Opens (Ok o) read = read ≡ opened_as o
+Opens (Err e) read = read ≡ Err e
 
 -- a packet's front, behind which nothing is read but its own number and message
 abbrev pub read_ended : PacketKind → ℕ → ℕ → List ℕ → Result Packet PacketError

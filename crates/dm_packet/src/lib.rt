@@ -2,7 +2,8 @@
 #![tactic(auto)]
 
 ghost use Rattle.std.specs.Prelude.{◌≡◌, ◌++◌, ◌≤◌, IfOk, Ok, OnErr, OnOk, length};
-ghost use Rattle.dm_packet.specs.Lawful.{IsLawfulPacket};
+ghost use Rattle.dm_message.specs.Lawful.{IsLawfulMessage};
+ghost use Rattle.dm_packet.specs.Lawful.{IsLawfulPacket, IsRoute};
 ghost use Rattle.dm_packet.specs.Packets.{packet_of, spelling};
 ghost use Rattle.dm_packet.specs.Rules.{number_of_rule};
 ghost use Rattle.dm_packet.specs.Widths.{FitsPacket};
@@ -13,11 +14,11 @@ pub mod writing;
 
 pub use dm_memory::NoMemory;
 use dm_memory::extend_from_slice;
-use dm_message::{Message, What};
-use front::Front;
-use reading::parts_at;
+use dm_message::Message;
+pub use front::Opened;
+pub use reading::{numbered_at, opened_at, room};
 use thiserror::Error;
-use writing::{Buffer, put_packet};
+use writing::{Buffer, ack_bytes, put_data};
 
 /// The room for a packet: no packet has more bytes.
 pub const MOST_PACKET: usize = 1024;
@@ -99,39 +100,50 @@ pub fn decode(bytes: &[u8]) -> Result<Packet, PacketError>
     ensures only { (p : Packet) → IsLawfulPacket p → FitsPacket p → bytes.now ≡ spelling p → result ≡ Ok p }
     ensures size { OnOk result (length bytes.now ≤ MOST_PACKET) }
 {
-    let mut what = What::Stop;
-    let front = parts_at(bytes, &mut what)?;
-    match front {
-        Front::Data {
-            from,
-            to,
-            seq,
-            head,
-        } => Ok(Packet::Data {
-            from,
-            to,
-            seq,
-            message: Message {
-                id: head.id,
-                to: head.to,
-                sender: head.sender,
-                what,
-            },
-        }),
-        Front::Ack { from, to, count } => Ok(Packet::Ack { from, to, count }),
+    match opened_at(bytes)? {
+        Opened::Data { from, to, behind } => {
+            let mut message = room();
+            let seq = numbered_at(behind, &mut message)?;
+            Ok(Packet::Data {
+                from,
+                to,
+                seq,
+                message,
+            })
+        }
+        Opened::Ack { from, to, count } => Ok(Packet::Ack { from, to, count }),
     }
 }
 
-/// Puts the one spelling of a packet, at most 1,024 bytes, at the end of a buffer, or leaves the buffer as it was.
-pub fn encode(packet: &Packet, out: &mut Vec<u8>) -> Result<(), NoMemory>
-    requires lawful { IsLawfulPacket packet.now }
-    ensures ok { OnOk result (out.new.items ≡ out.old.items ++ spelling packet.now) }
+/// Puts the one spelling of a message's packet, at most 1,024 bytes, at the end of a buffer, or leaves the buffer as it was.
+pub fn encode_data(
+    from: u8,
+    to: u8,
+    seq: u32,
+    message: &Message,
+    out: &mut Vec<u8>,
+) -> Result<(), NoMemory>
+    requires route { IsRoute from to }
+    requires lawful { IsLawfulMessage message.now }
+    ensures ok { OnOk result (out.new.items ≡ out.old.items ++ spelling (Packet.Data from to seq message.now)) }
     ensures err { OnErr result (out.new.items ≡ out.old.items) }
-    ensures size { length (spelling packet.now) ≤ MOST_PACKET }
+    ensures size { length (spelling (Packet.Data from to seq message.now)) ≤ MOST_PACKET }
     // What is written is read again.
-    ensures again { packet_of (spelling packet.now) ≡ Ok packet.now }
+    ensures again { packet_of (spelling (Packet.Data from to seq message.now)) ≡ Ok (Packet.Data from to seq message.now) }
 {
     let mut bytes = Buffer::new();
-    put_packet(&mut bytes, packet);
+    put_data(&mut bytes, from, to, seq, message);
     extend_from_slice(out, &bytes)
+}
+
+/// Puts the one spelling of an acknowledgement, of 8 bytes, at the end of a buffer, or leaves the buffer as it was.
+pub fn encode_ack(from: u8, to: u8, count: u32, out: &mut Vec<u8>) -> Result<(), NoMemory>
+    requires route { IsRoute from to }
+    ensures ok { OnOk result (out.new.items ≡ out.old.items ++ spelling (Packet.Ack from to count)) }
+    ensures err { OnErr result (out.new.items ≡ out.old.items) }
+    ensures size { length (spelling (Packet.Ack from to count)) ≤ MOST_PACKET }
+    // What is written is read again.
+    ensures again { packet_of (spelling (Packet.Ack from to count)) ≡ Ok (Packet.Ack from to count) }
+{
+    extend_from_slice(out, &ack_bytes(from, to, count))
 }

@@ -116,11 +116,11 @@ pub fn pack(alloc: Global, process: &Process) -> Result<Vec<u8>, NoMemory>
     // What is packed is unpacked at the table's number of slots.
     ensures again { IfOk result (λ v. (shell (length process.now.table)).read v.items ≡ Ok (shell_of process.now, [])) }
 {
-    let mut front = Buffer::new();
-    put_front(&mut front, process);
-    put_mask(&mut front, &process.table);
-    let mut bytes = from_slice(alloc, &front)?;
-    extend_with_links(&mut bytes, &process.table)?;
+    let mut room = Buffer::new();
+    put_front(&mut room, process);
+    put_mask(&mut room, &process.table);
+    let mut bytes = from_slice(alloc, &room)?;
+    extend_with_links(&mut bytes, &process.table, &mut room)?;
     Ok(bytes)
 }
 

@@ -173,24 +173,28 @@ pub fn put_mask(out: &mut Buffer, table: &Table)
     put_bytes(out, &bytes);
 }
 
-/// Puts a link at the end.
-fn extend_with_link(out: &mut Vec<u8>, link: &Link) -> Result<(), NoMemory>
+/// Puts a link at the end, by way of room that is lent.
+fn extend_with_link(out: &mut Vec<u8>, link: &Link, room: &mut Buffer) -> Result<(), NoMemory>
     ensures ok { OnOk result (out.new.items ≡ out.old.items ++ link_field.spell link.now) }
     ensures fits { FitsLink link.now }
 {
-    let mut bytes = Buffer::new();
-    put_link(&mut bytes, link);
-    extend_from_slice(out, &bytes)
+    room.clear();
+    put_link(room, link);
+    extend_from_slice(out, room)
 }
 
-/// Puts the links of a table at the end, in the order of their slots.
-pub fn extend_with_links(out: &mut Vec<u8>, table: &Table) -> Result<(), NoMemory>
+/// Puts the links of a table at the end, in the order of their slots, by way of room that is lent.
+pub fn extend_with_links(
+    out: &mut Vec<u8>,
+    table: &Table,
+    room: &mut Buffer,
+) -> Result<(), NoMemory>
     ensures ok { OnOk result (out.new.items ≡ out.old.items ++ flat_map spell_slot table.now) }
     ensures fits { OnOk result (All FitsSlot table.now) }
 {
     for slot in 0..table.cap() {
         if let Some(link) = table.get(slot) {
-            extend_with_link(out, link)?;
+            extend_with_link(out, link, room)?;
         }
     }
     Ok(())

@@ -1,6 +1,5 @@
 -- The cursor stands at the first packet that wasn't delivered.
-use Rattle.dm_wire.proofs.Names.{◌≡◌, ℕ, zero, suc, ◌<◌, ◌≤◌, true, false, List, [], ◌∷◌, ◌++◌, length, slice_set, get_or, ap, position, Some, None, refl, arith, position_or_len, nat_tests, Sent, is_unseen, just_put, seen_at, marked}
-use Rattle.dm_wire.proofs.Names.{with_mark, IsCursor}
+use Rattle.dm_wire.proofs.Names.{◌≡◌, ℕ, zero, suc, ◌<◌, ◌≤◌, true, false, List, [], ◌∷◌, length, position, Some, None, refl, arith, position_or_len, nat_tests, Sent, is_unseen, seen_at, marked, IsCursor}
 
 first-unseen : (xs : List Sent) (k : ℕ) → k ≤ length xs → ((j : ℕ) → j < k → seen_at xs j ≡ true) → seen_at xs k ≡ false → position_or_len is_unseen xs ≡ k
 first-unseen [] k within below here = omega arith
@@ -28,9 +27,3 @@ pub length_marked : (xs : List Sent) (k : ℕ) → length (marked xs k) ≡ leng
 length_marked [] k = refl
 length_marked (x ∷ xs) zero = refl
 length_marked (x ∷ xs) (suc k) = grind (arith, length_marked xs k)
-
--- a mark is one write
-pub marked_set : (xs : List Sent) (k : ℕ) (p : Sent) → k < length xs → p ≡ get_or xs k p → slice_set xs k (with_mark p) ≡ marked xs k
-marked_set [] k p h e = absurd (omega arith)
-marked_set (x ∷ xs) zero p h e = grind (arith, e)
-marked_set (x ∷ xs) (suc k) p h e = ap (λ ys. x ∷ ys) (marked_set xs k p (omega arith) e)

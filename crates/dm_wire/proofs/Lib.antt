@@ -1,3 +1,4 @@
 pub mod Names
 pub mod Cursor
+pub mod Bytes
 pub mod Pending

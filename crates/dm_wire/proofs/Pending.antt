@@ -1,10 +1,6 @@
 -- Senders of which each packet was delivered.
-use Rattle.std.specs.Prelude.{IfNone, IfSome}
-use Rattle.std.specs.declared.option.Option.{Option}
-use Rattle.dm_records.specs.Machines.{has}
-use Rattle.dm_records.specs.declared.machines.Machines.{Machines}
-use Rattle.dm_wire.proofs.Names.{◌≡◌, ℕ, zero, suc, ◌+◌, ◌*◌, ◌<◌, Bool, true, false, List, [], ◌∷◌, None, Some, refl, arith, marked, position, slice_index_or, ap, inl, inr, if◌then◌else◌, leb_tells, Sent, is_unseen}
-use Rattle.dm_wire.specs.Wire.{AreDelivered, packets_on}
+use Rattle.dm_wire.proofs.Names.{IfNone, IfSome, Option, has, Machines, ◌≡◌, ℕ, zero, suc, ◌+◌, ◌*◌, ◌<◌, Bool, true, false, List, [], ◌∷◌, None, Some, arith, marked, position, slice_index_or, ap, inl, inr, if◌then◌else◌, leb_tells, Sent}
+use Rattle.dm_wire.proofs.Names.{is_unseen, AreDelivered, packets_on}
 
 -- none stands on a wire to a machine past the sixteenth
 pub none_at : (pending : List Machines) (pairs : List (List Sent)) (a b : ℕ) (none : Machines) → AreDelivered pending pairs → a < 16 → has (slice_index_or pending a none) b ≡ false → position is_unseen (packets_on pairs a b) ≡ None

@@ -1,5 +1,5 @@
 -- The wires between sixteen machines, one for each ordered pair.
-use Rattle.std.specs.Prelude.{◌≡◌, ◌<◌, true, false, None, position, ℕ, ◌+◌, ◌*◌, nat_lt, Bool, ◌==◌, ◌&&◌, if◌then◌else◌, List, [], ◌∷◌, ◌++◌, slice_index_or}
+use Rattle.std.specs.Prelude.{◌≡◌, ◌⊎◌, ◌<◌, false, None, position, ℕ, ◌+◌, ◌*◌, nat_lt, Bool, ◌==◌, ◌&&◌, if◌then◌else◌, List, [], ◌∷◌, ◌++◌, slice_index_or}
 use Rattle.dm_records.specs.Machines.{has}
 use Rattle.dm_records.specs.declared.machines.Machines.{Machines}
 use Rattle.dm_wire.specs.Sent.{Sent, is_unseen, just_put, marked}
@@ -23,3 +23,16 @@ after_mark packets a b k x y = if is_pair a b x y then marked (packets x y) k el
 -- where a machine isn't among those to which something of the sender is pending, all packets to it were delivered
 abbrev pub AreDelivered : List Machines → List (List Sent) → Type 0
 AreDelivered pending pairs = (a b : ℕ) (none : Machines) → a < 16 → b < 16 → has (slice_index_or pending a none) b ≡ false → position is_unseen (packets_on pairs a b) ≡ None
+
+-- where a machine isn't among the senders from which something is pending, all packets from it were delivered
+abbrev pub AreSilent : Machines → List (List Sent) → Type 0
+AreSilent senders pairs = (a b : ℕ) → a < 16 → has senders a ≡ false → position is_unseen (packets_on pairs a b) ≡ None
+
+-- what is noted of packets that weren't delivered
+pub record AreNoted (senders : Machines) (pending : List Machines) (pairs : List (List Sent)) : Type 0 where
+  pub from : AreSilent senders pairs
+  pub to : AreDelivered pending pairs
+
+-- a machine that is no sender any more was none before, or it is this one, which has no such receivers
+abbrev pub StaysClosed : Machines → ℕ → Machines → ℕ → Type 0
+StaysClosed senders a receivers n = (has senders n ≡ false) ⊎ ((n ≡ a) × ((b : ℕ) → has receivers b ≡ false))

@@ -1,7 +1,8 @@
 //! The wires of all pairs of machines.
 ghost use Rattle.std.specs.Prelude.{IfNone, IfOk, IfSome, None, OnErr, OnOk, [], false, length, option_map, position, slice_index_or, vec_len, ◌*◌, ◌+◌, ◌<◌, ◌^◌, ◌≡◌, ◌≤◌, ℕ};
 ghost use Rattle.dm_wire.specs.Sent.{is_unseen};
-ghost use Rattle.dm_wire.specs.Wire.{after_mark, packets_on};
+ghost use Rattle.dm_records.specs.Machines.{has};
+ghost use Rattle.dm_wire.specs.Wire.{StaysClosed, after_mark, packets_on};
 
 use crate::packets::Packets;
 use dm_link::MACHINES;
@@ -15,6 +16,8 @@ use std::marker::Model;
 #[derive(Drop)]
 pub struct Wire {
     pairs: Vec<Packets>,
+    /// The senders from which there may be a packet that isn't marked.
+    senders: Machines,
     /// Of each sender, the receivers to which there may be a packet that isn't marked.
     pending: [Machines; MACHINES as usize],
     alloc: Global,
@@ -23,13 +26,13 @@ pub struct Wire {
 impl Model for Wire {
     ghost use Rattle.std.specs.Prelude.{List};
     ghost use Rattle.dm_wire.specs.Sent.{Sent};
-    ghost use Rattle.dm_wire.specs.Wire.{AreDelivered};
+    ghost use Rattle.dm_wire.specs.Wire.{AreNoted};
 
     ghost Value = { List (List Sent) };
 
     ghost view = { λ w. w.pairs.items };
 
-    ghost invariant = { λ w. AreDelivered w.pending w.pairs.items };
+    ghost invariant = { λ w. AreNoted w.senders w.pending w.pairs.items };
 }
 
 /// The place of a pair.
@@ -72,6 +75,17 @@ fn mark(pairs: &mut Vec<Packets>, a: u8, b: u8, number: u64)
     pairs[place(a, b)].mark(number);
 }
 
+/// The senders, of whom `a` stays one only where it has such receivers.
+fn still_open(senders: Machines, a: u8, receivers: Machines) -> Machines
+    requires { a < MACHINES }
+    ensures { (n : ℕ) → n < MACHINES → has result n ≡ false → StaysClosed senders a receivers n }
+{
+    match receivers.first_from(0) {
+        Some(_) => senders,
+        None => senders.without(a),
+    }
+}
+
 #[tactic(auto, unfolding(crate::specs::Wire::packets_on))]
 impl Wire {
     ghost use Rattle.dm_wire.specs.Sent.{bytes_at, is_unseen};
@@ -83,18 +97,20 @@ impl Wire {
     {
         Wire {
             pairs: Vec::new(alloc),
+            senders: Machines::none(),
             pending: [Machines::none(); MACHINES as usize],
             alloc,
         }
     }
 
-    /// Puts a packet on the wire from `a` to `b`, and tells its number. Where memory lacks, the bytes are let go.
-    pub fn put(&mut self, a: u8, b: u8, bytes: Vec<u8>) -> Result<u64, NoMemory>
+    /// Puts a packet on the wire from `a` to `b`, and tells its number.
+    pub fn put(&mut self, a: u8, b: u8, bytes: &[u8]) -> Result<u64, NoMemory>
         requires { (a < MACHINES) × (b < MACHINES) }
-        ensures ok { OnOk result ((x y : ℕ) → packets_on self.new x y ≡ after_put (packets_on self.old) a b bytes.items x y) }
+        ensures ok { OnOk result ((x y : ℕ) → packets_on self.new x y ≡ after_put (packets_on self.old) a b bytes.now x y) }
         ensures number { IfOk result (λ k. k ≡ length (packets_on self.old a b)) }
         ensures err { OnErr result ((x y : ℕ) → packets_on self.new x y ≡ packets_on self.old x y) }
     {
+        self.senders = self.senders.with(a);
         let row = &mut self.pending[usize::from(a)];
         *row = row.with(b);
         let place = place(a, b);
@@ -131,9 +147,19 @@ impl Wire {
     {
         mark(&mut self.pairs, a, b, number);
         if unseen(&self.pairs, a, b).is_none() {
-            let row = &mut self.pending[usize::from(a)];
-            *row = row.without(b);
+            let row = self.pending[usize::from(a)].without(b);
+            self.pending[usize::from(a)] = row;
+            self.senders = still_open(self.senders, a, row);
         }
+    }
+
+    /// The first machine from `from` on from which a packet may not be marked yet: from those before it, all are.
+    pub fn first_sender(&self, from: u8) -> Option<u8>
+        ensures none { IfNone result ((a b : ℕ) → from ≤ a → a < MACHINES → position is_unseen (packets_on self.now a b) ≡ None) }
+        ensures some { IfSome result
+            (λ k. (from ≤ k) × (k < MACHINES) × ((a b : ℕ) → from ≤ a → a < k → position is_unseen (packets_on self.now a b) ≡ None)) }
+    {
+        self.senders.first_from(from)
     }
 
     /// The first machine from `to` on to which a packet from `a` may not be marked yet: to those before it, all are.

@@ -55,7 +55,7 @@ pub use Rattle.dm_world.specs.Ends.{SaysSome, awaited_kept, awaited_lines, child
 pub use Rattle.dm_world.specs.Ends.{record_kept, record_queue, slot_line, stream_line}
 pub use Rattle.dm_world.specs.Local.{ActsAlone, acts_on, bytes_of}
 pub use Rattle.dm_world.specs.May.{MayAskAt, MayDeliver, MayRead, MayStep, sent_by}
-pub use Rattle.dm_world.specs.Meets.{ActedAt, ActedSome, Answers, AreNodes, IsNode, IsSendable, IsWorld, IsWornOut, Meets, MeetsSome, TurnAnswers, world_state}
+pub use Rattle.dm_world.specs.Meets.{ActedAt, ActedSome, Answers, AreNodes, IsNode, IsWorld, IsWornOut, Meets, MeetsSome, TurnAnswers, world_state}
 unfoldable pub use Rattle.dm_world.specs.Meets.{ended_in, node_in}
 pub use Rattle.dm_world.specs.Next.{all_heard, first_unseen, world_has_mail, world_is_quiet, world_next_step, world_seen, world_serves, world_undelivered}
 pub use Rattle.dm_world.specs.Readable.{AreReadBack, gave_bytes, gave_read, gave_some}

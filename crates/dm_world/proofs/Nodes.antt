@@ -1,11 +1,10 @@
 -- The machines of the code: one of them acts, and the others stay.
 use Rattle.dm_world.proofs.Names.{◌≡◌, ◌≢◌, ℕ, suc, ◌+◌, ◌<◌, ◌≤◌, Bool, List, [], ◌∷◌, ◌++◌, length, refl, sym, ap, subst, ◌∙◌, inl, inr, arith, length-set, get_or, get_or-set_same, get_or-set_other, length-append, get_or-append_seam}
-use Rattle.dm_world.proofs.Names.{get_or_append_left, set, ◌⊎◌, if◌then◌else◌, slice_get, slice_index_or, All, Option, None, Some, Err, eqb_tells, leb_tells, leb-true, All-weaker, get_or_from_slice_get, slice_get-get_or, slice_get_cases}
+use Rattle.dm_world.proofs.Names.{get_or_append_left, set, ◌⊎◌, if◌then◌else◌, slice_get, slice_index_or, Option, None, Some, Err, eqb_tells, leb_tells, leb-true, get_or_from_slice_get, slice_get-get_or, slice_get_cases}
 use Rattle.dm_world.proofs.Names.{slice_get_past, slice_get_within, Boot, Packet, Data, Ack, at_machine, Node, Stop, Out, NodeState, here, node_opened, Acted, Acts, Goes, Worn, arrives_packet, MayArrivePacket, arrives_lawfully}
-use Rattle.dm_world.proofs.Names.{option_map_or, ActsLawfully, IsLawfulOut, AnswersSome, Gave, GaveSome, World, ActedAt, ActedSome, AreNodes, IsNode, IsSendable, IsWorld, TurnAnswers, node_in, node_state}
+use Rattle.dm_world.proofs.Names.{option_map_or, ActsLawfully, AnswersSome, Gave, GaveSome, World, ActedAt, ActedSome, AreNodes, IsNode, IsWorld, TurnAnswers, node_in, node_state}
 use Rattle.dm_packet.specs.declared.Packet.TheVariants as packet
 use Rattle.dm_node.specs.declared.stop.Stop.TheVariants as stop
-use Rattle.dm_node.specs.declared.out.Out.TheVariants as out
 
 -- a list with one place written
 pub set_get_same : {X : Type 0} (xs : List X) (i : ℕ) (v : X) → i < length xs → slice_get (set xs i v) i ≡ Some v
@@ -85,14 +84,6 @@ acted b nodes i m x outs a same h are gave lawful =
       outs = gave.outs;
     })
 
--- what a machine sends can be encoded
-sendable : (m : ℕ) (o : Out) → IsLawfulOut m o → IsSendable o
-sendable m (out.Says l) h = tt
-sendable m (out.Sends p) h = h.0
-
-pub all_sendable : (m : ℕ) (a : Acted) (outs : List Out) → outs ≡ a.outs → ActsLawfully m a → All IsSendable outs
-all_sendable m a outs e h = subst (All IsSendable) (sym e) (All-weaker (IsLawfulOut m) IsSendable (sendable m) a.outs h.outs)
-
 -- the machine at a place has its number
 pub here_at : (b : Boot) (nodes : List Node) (m : ℕ) (d : Node) → m < length nodes → AreNodes nodes → here (node_in b nodes m) ≡ m
 here_at b nodes m d h are = sym (ap here (node_at b nodes m m d refl h)) ∙ (is_node_at nodes m m d refl h are).here
@@ -108,14 +99,6 @@ acted_some b nodes i m x old outs (Some (Worn from to)) same h are none gave law
 pub stopped : (e : Stop) (b : Boot) (old new : List Node) (m : ℕ) (n : Node) (before after : List Out) (o : Option Acts) → AnswersSome (Err e) n before after o → TurnAnswers (Err e) b old new m o
 stopped (stop.Worn from to) b old new m n before after o h = h
 stopped (stop.NoMemory e) b old new m n before after o h = tt
-
-gave_sendable : (m : ℕ) (x : Node) (outs : List Out) (o : Option Acts) → GaveSome x [] outs o → ((a : Acted) → o ≡ Some (Goes a) → ActsLawfully m a) → All IsSendable outs
-gave_sendable m x outs None gave lawful = absurd gave
-gave_sendable m x outs (Some (Goes a)) gave lawful = all_sendable m a outs gave.outs (lawful a refl)
-gave_sendable m x outs (Some (Worn from to)) gave lawful = absurd gave
-
-pub turn_sendable : (m : ℕ) (x : Node) (old outs : List Out) (o : Option Acts) → old ≡ [] → GaveSome x old outs o → ((a : Acted) → o ≡ Some (Goes a) → ActsLawfully m a) → All IsSendable outs
-turn_sendable m x old outs o none gave lawful = gave_sendable m x outs o (subst (λ ys. GaveSome x ys outs o) none gave) lawful
 
 -- a machine that acts and stays as it is
 at_same : {X : Type 0} (f : ℕ → X) (m c : ℕ) → f c ≡ at_machine f m (f m) c

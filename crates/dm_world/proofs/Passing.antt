@@ -126,3 +126,25 @@ row_skip n w a c (suc k) rest h =
     row_skip n w a c k rest (λ b from below. h b from (omega (arith, below)))
     ∙ row_step n w a (c + k) rest (h (c + k) (omega arith) (omega arith))
     ∙ ap (λ (b : ℕ). next_delivery (world_undelivered w) (row_at n a b rest)) (let e : c + k + 1 ≡ c + suc k = omega arith in e)
+
+-- and so are rows
+rows_step : (n : ℕ) (w : WorldState) (a : ℕ) → (a < n → (b : ℕ) → world_undelivered w a b ≡ None)
+    → next_delivery (world_undelivered w) (pairs_at n a 0) ≡ next_delivery (world_undelivered w) (pairs_at n (a + 1) 0)
+rows_step n w a none =
+    elim (leb_tells (suc a) n) [
+      | inl t ↦
+          ap (next_delivery (world_undelivered w)) (pairs_row n a 0 t.1)
+          ∙ row_skip n w a 0 n (rows_from n (a + 1)) (λ b from below. none t.1 b)
+          ∙ ap (next_delivery (world_undelivered w)) (row_over n a (0 + n) (rows_from n (a + 1)) (omega arith) ∙ rows_are_pairs n (a + 1))
+      | inr t ↦
+          let past : n ≤ a = (let f = t.1 in omega (arith, f)) in
+          ap (next_delivery (world_undelivered w)) (pairs_past n a 0 past ∙ sym (pairs_past n (a + 1) 0 (omega (arith, past))))
+    ]
+
+pub rows_skip : (n : ℕ) (w : WorldState) (a k : ℕ) → ((x b : ℕ) → a ≤ x → x < a + k → x < n → world_undelivered w x b ≡ None)
+    → next_delivery (world_undelivered w) (pairs_at n a 0) ≡ next_delivery (world_undelivered w) (pairs_at n (a + k) 0)
+rows_skip n w a zero h = ap (λ (x : ℕ). next_delivery (world_undelivered w) (pairs_at n x 0)) (let e : a ≡ a + 0 = omega arith in e)
+rows_skip n w a (suc k) h =
+    rows_skip n w a k (λ x b from below. h x b from (omega (arith, below)))
+    ∙ rows_step n w (a + k) (λ small b. h (a + k) b (omega arith) (omega arith) small)
+    ∙ ap (λ (x : ℕ). next_delivery (world_undelivered w) (pairs_at n x 0)) (let e : a + k + 1 ≡ a + suc k = omega arith in e)

@@ -1,5 +1,6 @@
 -- What a machine gives is said, one after the other.
 use Rattle.dm_world.proofs.Names.{◌≡◌, ℕ, ◌+◌, ◌<◌, List, [], ◌∷◌, ◌++◌, length, get_or, drop, drop_more, sym, ap, subst, ◌∙◌, append_assoc, Packet, Sent, Line, Out, Sends, Spoken, packet_line, spoken, with_packet}
+use Rattle.std.proofs.lemmas.Grind.{drop_more_same}
 use Rattle.dm_node.specs.declared.out.Out.TheVariants.{Says}
 
 -- behind these lines it comes to the same as that behind those
@@ -28,6 +29,6 @@ leads_packet old now next all wires after p l outs items is said e put h =
       wires = k.wires;
     })
 
--- what is said at a place, and what is left behind it
-pub at_place : (outs : List Out) (i : ℕ) (o same : Out) → i < length outs → o ≡ get_or outs i o → o ≡ same → drop i outs ≡ same ∷ drop (i + 1) outs
-at_place outs i o same lt here is = drop_more outs i o lt ∙ ap (λ x. x ∷ drop (i + 1) outs) (sym here ∙ is)
+-- what is said at a place, and what is left behind it, where what stands from the place on is as it was
+pub left_more : (now old : List Out) (i : ℕ) (o : Out) → i < length now → o ≡ get_or now i o → drop i now ≡ drop i old → drop i old ≡ o ∷ drop (i + 1) old
+left_more now old i o lt here left = sym left ∙ drop_more now i o lt ∙ (λ k. sym here k ∷ drop_more_same now old i left k)

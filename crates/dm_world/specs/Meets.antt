@@ -9,7 +9,6 @@ use Rattle.std.specs.declared.result.Result.{Result}
 use Rattle.std.specs.declared.result.Result.TheVariants.{Ok, Err}
 use Rattle.dm_link.specs.declared.Pid.{Pid}
 use Rattle.dm_link.specs.Names.{pid_cmp}
-use Rattle.dm_packet.specs.Lawful.{IsLawfulPacket}
 use Rattle.dm_wire.specs.Wire.{packets_on}
 use Rattle.dm_onekernel.specs.declared.boot.Boot.{Boot}
 use Rattle.dm_onekernel.specs.declared.label.Why.{Why}
@@ -20,7 +19,6 @@ use Rattle.dm_node.specs.declared.node.Node.{Node}
 use Rattle.dm_node.specs.declared.stop.Stop.{Stop}
 use Rattle.dm_node.specs.declared.stop.Stop.TheVariants as stop
 use Rattle.dm_node.specs.declared.out.Out.{Out}
-use Rattle.dm_node.specs.declared.out.Out.TheVariants as out
 use Rattle.dm_node.specs.State.{NodeState, node_opened}
 use Rattle.dm_node.specs.Out.{Acted, Acts, Goes, Worn}
 use Rattle.dm_node.specs.Meets as node
@@ -69,11 +67,6 @@ abbrev pub TurnAnswers : Result (Vec Out Global) Stop → Boot → List Node →
 TurnAnswers (Ok outs) b old new m o = ActedSome b old new m outs.items o
 TurnAnswers (Err (stop.Worn from to)) b old new m o = IsWornSome from to o
 TurnAnswers (Err (stop.NoMemory e)) b old new m o = ⊤
-
--- each packet can be encoded
-abbrev pub IsSendable : Out → Type 0
-IsSendable (out.Says l) = ⊤
-IsSendable (out.Sends p) = IsLawfulPacket p
 
 -- the world is in this state, and the lines are these
 pub record Meets (w : WorldState) (lines : List Line) (h : Happened) : Type 0 where

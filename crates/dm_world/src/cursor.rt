@@ -218,11 +218,13 @@ impl World {
         ensures fresh { IfSome result (λ p. IsFresh (length self.now.boot.machines) (world_state self.now) p.0 p.1 p.2) }
     {
         let machines = self.machines();
+        let mut a = from;
         let mut to = to;
-        for a in from..machines {
+        while a < machines {
             if let Some((b, k)) = self.first_in_row(a, to) {
                 return Some((a, b, k));
             }
+            a = self.wires.first_sender(a + 1)?;
             to = 0;
         }
         None

@@ -1,6 +1,5 @@
 //! What a directive does.
 ghost use Rattle.std.specs.Prelude.{◌≡◌, ◌<◌, ◌≤◌, ◌+◌, ◌^◌, ◌∷◌, ℕ, IfOk, IfSome, IsOk, OnErr, OnOk, None, Ok, Some, [], false, length, option_map, true};
-ghost use Rattle.std.specs.List.{All};
 ghost use Rattle.dm_link.specs.declared.Pid.{Pid as ThePid};
 ghost use Rattle.dm_onekernel.specs.Boot.{images_are_valid};
 ghost use Rattle.dm_onekernel.specs.declared.boot.Boot.{Boot as TheBoot};
@@ -18,7 +17,7 @@ ghost use Rattle.dm_node.specs.Wired.{spoken};
 ghost use Rattle.dm_line.specs.declared.line.Line.TheVariants as line;
 ghost use Rattle.dm_world.specs.Local.{ActsAlone, acts_on};
 ghost use Rattle.dm_world.specs.May.{MayStep};
-ghost use Rattle.dm_world.specs.Meets.{ActedAt, AreNodes, IsSendable, IsWorld, TurnAnswers, ended_in, node_in, world_state};
+ghost use Rattle.dm_world.specs.Meets.{ActedAt, AreNodes, IsWorld, TurnAnswers, ended_in, node_in, world_state};
 ghost use Rattle.dm_world.specs.Readable.{AreReadBack};
 ghost use Rattle.dm_world.specs.Stepped.{StepMeets};
 ghost use Rattle.dm_world.specs.World.{with_over, seat_of};
@@ -228,7 +227,6 @@ impl World {
 
     /// The group of a directive that comes to this: its head first. What it comes to is kept, for its memory.
     fn group(&mut self, step: Step, outs: Vec<Out>) -> Result<Vec<Line>, NoMemory>
-        requires outs { All IsSendable outs.items }
         requires groups { self.old.groups < 2 ^ 127 }
         ensures lines { IfOk result (λ lines. lines.items ≡ line.Head step ∷ (spoken (packets_on self.old.wires) outs.items).lines) }
         ensures wires { OnOk result ((x y : ℕ) → packets_on self.new.wires x y ≡ (spoken (packets_on self.old.wires) outs.items).wires x y) }
@@ -241,7 +239,8 @@ impl World {
     {
         let mut lines = emptied(self.alloc, &mut self.lines);
         push(&mut lines, Line::Head(step))?;
-        speak(self.alloc, &mut self.wires, &outs, &mut lines)?;
+        let mut outs = outs;
+        speak(&mut self.wires, &mut outs, &mut lines)?;
         self.outs = outs;
         self.groups += 1;
         Ok(lines)
@@ -266,7 +265,6 @@ fn take_turn(empty: Vec<Out>, nodes: &mut [Node], boot: &Boot, m: u8) -> Result<
     requires images { images_are_valid boot.now.images ≡ true }
     requires lawful { IsLawfulState (node_in boot.now nodes.old m).kernel }
     ensures answers { TurnAnswers result boot.now nodes.old nodes.new m (node.turn boot.now (node_in boot.now nodes.old m)) }
-    ensures outs { IfOk result (λ outs. All IsSendable outs.items) }
     ensures whole { OrNoMemory result (FreezesWhole (node_in boot.now nodes.old m).kernel (node_in boot.now nodes.old m).kernel.inbox) }
 {
     let mut outs = empty;
@@ -311,8 +309,7 @@ fn ask_manager(
     requires may { MayAskMove (node_in boot.now nodes.old m) }
     requires to { to < MACHINES }
     requires lawful { IsLawfulState (node_in boot.now nodes.old m).kernel }
-    ensures answers { TurnAnswers result boot.now nodes.old nodes.new m (node.asks_move (node_in boot.now nodes.old m) pid to) }
-    ensures outs { IfOk result (λ outs. All IsSendable outs.items) }
+    ensures { TurnAnswers result boot.now nodes.old nodes.new m (node.asks_move (node_in boot.now nodes.old m) pid to) }
 {
     let mut outs = empty;
     match nodes[place_of(m)].ask_move(pid, to, &mut outs) {
@@ -334,8 +331,7 @@ fn call_off(
     requires nodes { AreNodes nodes.old }
     requires may { MayCallOff (node_in boot.now nodes.old m) pid }
     requires lawful { IsLawfulState (node_in boot.now nodes.old m).kernel }
-    ensures answers { TurnAnswers result boot.now nodes.old nodes.new m (node.calls_off (node_in boot.now nodes.old m) pid) }
-    ensures outs { IfOk result (λ outs. All IsSendable outs.items) }
+    ensures { TurnAnswers result boot.now nodes.old nodes.new m (node.calls_off (node_in boot.now nodes.old m) pid) }
 {
     let mut outs = empty;
     match nodes[place_of(m)].call_off(pid, &mut outs) {
@@ -350,8 +346,7 @@ fn send_again(empty: Vec<Out>, boot: &Boot, nodes: &[Node], m: u8) -> Result<Vec
     requires within { m < length nodes.now }
     requires nodes { AreNodes nodes.now }
     requires may { MayAct (node_in boot.now nodes.now m) }
-    ensures answers { IfOk result (λ outs. ActedAt boot.now nodes.now nodes.now m outs.items (node.tick (node_in boot.now nodes.now m))) }
-    ensures outs { IfOk result (λ outs. All IsSendable outs.items) }
+    ensures { IfOk result (λ outs. ActedAt boot.now nodes.now nodes.now m outs.items (node.tick (node_in boot.now nodes.now m))) }
 {
     let mut outs = empty;
     nodes[usize::from(m)].tick(&mut outs)?;
@@ -370,8 +365,7 @@ fn receive(
     requires within { m < length nodes.old }
     requires nodes { AreNodes nodes.old }
     requires may { MayArrivePacket (node_in boot.now nodes.old m) packet }
-    ensures answers { IfOk result (λ outs. ActedAt boot.now nodes.old nodes.new m outs.items (node.arrives_packet (node_in boot.now nodes.old m) packet)) }
-    ensures outs { IfOk result (λ outs. All IsSendable outs.items) }
+    ensures { IfOk result (λ outs. ActedAt boot.now nodes.old nodes.new m outs.items (node.arrives_packet (node_in boot.now nodes.old m) packet)) }
 {
     let mut outs = empty;
     nodes[usize::from(m)].arrive(packet, &mut outs)?;

@@ -1,8 +1,7 @@
 //! Reading from the left, each field tested as soon as it is there.
 ghost use Rattle.std.specs.Prelude.{◌≡◌};
 ghost use Rattle.dm_packet.specs.Packets.{head, head_parts, id, opening, packet_kind, packet_of};
-ghost use Rattle.dm_packet.specs.Parts.{ReadsParts, read_ended};
-ghost use Rattle.dm_message.specs.declared.What.{What as TheWhat};
+ghost use Rattle.dm_packet.specs.Parts.{Opens, ReadsNumbered, blank, read_ended, read_numbered};
 ghost use Rattle.dm_packet.specs.declared.front.PacketKind.TheVariants as kinds;
 ghost use Rattle.dm_packet.specs.Reads.{Reads};
 
@@ -12,9 +11,10 @@ mod lists;
 pub mod parts;
 
 use crate::PacketError;
-use crate::front::{Front, Head, Opening, PacketKind};
+use crate::front::{Head, Opened, Opening, PacketKind, VERSION};
+use dm_link::{Addr, Pid};
 use dm_lists::is_over;
-use dm_message::{MsgId, What};
+use dm_message::{Message, MsgId, What};
 use fields::{addr_at, byte_at, machine_at, pid_at, u32_at};
 use kinds::what_at;
 use parts::{kind_at, yes_or_no_at};
@@ -70,7 +70,7 @@ fn opening_at(bytes: &[u8]) -> Result<(Opening, &[u8]), PacketError>
     ensures { Reads result (opening.read bytes.now) }
 {
     let (version, rest) = byte_at(bytes)?;
-    if version != 4 {
+    if version != VERSION {
         return Err(PacketError::Version);
     }
     let (kind, rest) = packet_kind_at(rest)?;
@@ -82,47 +82,70 @@ fn opening_at(bytes: &[u8]) -> Result<(Opening, &[u8]), PacketError>
     Ok((Opening { kind, from, to }, rest))
 }
 
-/// The front of a message's packet, and what the message carries, put where it is told. Nothing stands behind it.
-#[tactic(auto, unfolding(crate::specs::Packets::read_rest, crate::specs::Packets::read_message))]
-fn data_at(from: u8, to: u8, bytes: &[u8], what: &mut What) -> Result<Front, PacketError>
-    ensures { ReadsParts result what.new (read_ended kinds.Data from to bytes.now) }
+/// Room for a message, to be read over: one from nobody to nobody.
+pub fn room() -> Message
+    ensures { result ≡ blank }
+{
+    let nobody = Addr {
+        pid: Pid { home: 0, num: 0 },
+        at: 0,
+        moves: 0,
+    };
+    Message {
+        id: MsgId {
+            from: nobody.pid,
+            n: 0,
+            answer: false,
+        },
+        to: nobody,
+        sender: nobody,
+        what: What::Stop,
+    }
+}
+
+/// The number of a message, which is put where it is told. Nothing stands behind it.
+#[inline(never)]
+#[tactic(auto, unfolding(crate::specs::Packets::read_message))]
+pub fn numbered_at(bytes: &[u8], message: &mut Message) -> Result<u32, PacketError>
+    ensures { ReadsNumbered result message.new (read_numbered bytes.now) }
 {
     let (seq, rest) = u32_at(bytes)?;
     let (head, rest) = head_at(rest)?;
-    let rest = what_at(head.kind, rest, what)?;
+    let rest = what_at(head.kind, rest, &mut message.what)?;
     if !is_over(rest) {
         return Err(PacketError::Trailing);
     }
-    Ok(Front::Data {
-        from,
-        to,
-        seq,
-        head,
-    })
+    message.id = head.id;
+    message.to = head.to;
+    message.sender = head.sender;
+    Ok(seq)
 }
 
-/// The front of an acknowledgement. Nothing stands behind it.
+/// All of an acknowledgement whose front is read. Nothing stands behind it.
 #[tactic(auto, unfolding(crate::specs::Packets::read_rest))]
-fn ack_at(from: u8, to: u8, bytes: &[u8]) -> Result<Front, PacketError>
-    ensures { (what : TheWhat) → ReadsParts result what (read_ended kinds.Ack from to bytes.now) }
+fn ack_at(from: u8, to: u8, bytes: &[u8]) -> Result<Opened<'_>, PacketError>
+    ensures { Opens result (read_ended kinds.Ack from to bytes.now) }
 {
     let (count, rest) = u32_at(bytes)?;
     if !is_over(rest) {
         return Err(PacketError::Trailing);
     }
-    Ok(Front::Ack { from, to, count })
+    Ok(Opened::Ack { from, to, count })
 }
 
-/// The parts of the packet that the bytes spell, or the first rule that they break. What its message carries, if it has
-/// one, is put where it is told.
-#[tactic(auto, unfolding(crate::specs::Packets::packet_of))]
-pub(crate) fn parts_at(bytes: &[u8], what: &mut What) -> Result<Front, PacketError>
-    ensures { ReadsParts result what.new (packet_of bytes.now) }
+/// The packet that the bytes spell, but for its number and message, if it has one, or the first rule that they break.
+#[tactic(auto, unfolding(crate::specs::Packets::packet_of), using(crate::proofs::Parts::data_is_behind))]
+pub fn opened_at(bytes: &[u8]) -> Result<Opened<'_>, PacketError>
+    ensures { Opens result (packet_of bytes.now) }
 {
     let (opening, rest) = opening_at(bytes)?;
     let Opening { kind, from, to } = opening;
     match kind {
-        PacketKind::Data => data_at(from, to, rest, what),
+        PacketKind::Data => Ok(Opened::Data {
+            from,
+            to,
+            behind: rest,
+        }),
         PacketKind::Ack => ack_at(from, to, rest),
     }
 }

@@ -2,8 +2,9 @@
 ghost use Rattle.std.specs.Prelude.{◌≡◌, ◌≤◌, [], length};
 ghost use Rattle.dm_message.specs.Kinds.{kind_of};
 ghost use Rattle.dm_message.specs.Lawful.{IsLawfulMessage};
-ghost use Rattle.dm_packet.specs.Lawful.{IsLawfulPacket};
-ghost use Rattle.dm_packet.specs.Packets.{head, head_of, id as id_field, opening, packet_kind, spell_message, spelling};
+ghost use Rattle.dm_packet.specs.declared.Packet.{Packet};
+ghost use Rattle.dm_packet.specs.declared.front.PacketKind.TheVariants as kinds;
+ghost use Rattle.dm_packet.specs.Packets.{head, head_of, id as id_field, opening, spell_message, spelling};
 ghost use Rattle.dm_packet.specs.Whats.{message_kind};
 ghost use Rattle.dm_packet.specs.Widths.{FitsAddr, FitsId, FitsMessage, FitsPacket};
 ghost use Rattle.dm_packet.specs.Writes.{HasRoom, Puts};
@@ -12,8 +13,7 @@ pub mod fields;
 mod kinds;
 mod lists;
 
-use crate::Packet;
-use crate::front::PacketKind;
+use crate::front::{PacketKind, VERSION};
 use arrayvec::ArrayVec;
 use dm_message::{Message, MsgId, What};
 use fields::{put_addr, put_bool, put_byte, put_pid, put_u32};
@@ -65,50 +65,45 @@ fn put_message(out: &mut Buffer, message: &Message)
     put_what(out, &message.what);
 }
 
-fn put_packet_kind(out: &mut Buffer, kind: PacketKind)
-    requires room { HasRoom out.old (packet_kind.spell kind) }
-    ensures put { Puts out.old out.new (packet_kind.spell kind) }
+/// The version and the front of a message's packet.
+fn put_opening(out: &mut Buffer, from: u8, to: u8)
+    requires room { HasRoom out.old (opening.spell (record { kind = kinds.Data; from = from; to = to })) }
+    ensures put { Puts out.old out.new (opening.spell (record { kind = kinds.Data; from = from; to = to })) }
 {
-    let number = match kind {
-        PacketKind::Data => 1,
-        PacketKind::Ack => 2,
-    };
-    put_byte(out, number);
-}
-
-/// The version and the front of a packet.
-fn put_opening(out: &mut Buffer, kind: PacketKind, from: u8, to: u8)
-    requires room { HasRoom out.old (opening.spell (record { kind = kind; from = from; to = to })) }
-    ensures put { Puts out.old out.new (opening.spell (record { kind = kind; from = from; to = to })) }
-{
-    put_byte(out, 4);
-    put_packet_kind(out, kind);
+    put_byte(out, VERSION);
+    put_byte(out, PacketKind::Data.number());
     put_byte(out, from);
     put_byte(out, to);
 }
 
-/// A packet, where nothing was put yet.
+/// A message's packet, where nothing was put yet.
 #[tactic(auto, unfolding(crate::specs::Packets::spelling))]
-pub fn put_packet(out: &mut Buffer, packet: &Packet)
+pub fn put_data(out: &mut Buffer, from: u8, to: u8, seq: u32, message: &Message)
     requires empty { out.old.items ≡ [] }
-    requires lawful { IsLawfulPacket packet.now }
-    ensures put { Puts out.old out.new (spelling packet.now) }
-    ensures fits { FitsPacket packet.now }
+    requires lawful { IsLawfulMessage message.now }
+    ensures put { Puts out.old out.new (spelling (Packet.Data from to seq message.now)) }
+    ensures fits { FitsPacket (Packet.Data from to seq message.now) }
 {
-    match packet {
-        Packet::Data {
-            from,
-            to,
-            seq,
-            message,
-        } => {
-            put_opening(out, PacketKind::Data, *from, *to);
-            put_u32(out, *seq);
-            put_message(out, message);
-        }
-        Packet::Ack { from, to, count } => {
-            put_opening(out, PacketKind::Ack, *from, *to);
-            put_u32(out, *count);
-        }
-    }
+    put_opening(out, from, to);
+    put_u32(out, seq);
+    put_message(out, message);
+}
+
+/// An acknowledgement.
+#[tactic(auto, unfolding(crate::specs::Packets::spelling))]
+pub fn ack_bytes(from: u8, to: u8, count: u32) -> [u8; 8]
+    ensures spelled { result ≡ spelling (Packet.Ack from to count) }
+    ensures fits { FitsPacket (Packet.Ack from to count) }
+{
+    let count = count.to_be_bytes();
+    [
+        VERSION,
+        PacketKind::Ack.number(),
+        from,
+        to,
+        count[0],
+        count[1],
+        count[2],
+        count[3],
+    ]
 }

@@ -8,7 +8,7 @@ pub put_mask-requires : goal.put_mask-requires
 put_mask-requires c =
     let s = shell_of c.args.process.now in
     let first = front.spell (shell_front s) in
-    let put : c.put_front.new.out.items ≡ first = c.put_front.ensures.put ∙ ap (λ (old : List ℕ). old ++ first) c.new-front.ensures in
+    let put : c.put_front.new.out.items ≡ first = c.put_front.ensures.put ∙ ap (λ (old : List ℕ). old ++ first) c.new-room.ensures in
     record { room = omega (arith, ap length put, (front_size s c.requires.lawful.registers).1) }
 
 pub returns-clause-ok : goal.returns-clause-ok
@@ -18,7 +18,7 @@ returns-clause-ok c =
     let first = front.spell (shell_front (shell_of p)) in
     let mask = (number 16).spell (mask_of p.table) in
     let links = flat_map spell_slot p.table in
-    let put : c.put_front.new.out.items ≡ first = c.put_front.ensures.put ∙ ap (λ (old : List ℕ). old ++ first) c.new-front.ensures in
+    let put : c.put_front.new.out.items ≡ first = c.put_front.ensures.put ∙ ap (λ (old : List ℕ). old ++ first) c.new-room.ensures in
     let masked : c.put_mask.new.out.items ≡ first ++ mask = c.put_mask.ensures.put ∙ ap (λ (old : List ℕ). old ++ mask) put in
     let bytes : c.in_ok-bytes.bytes.items ≡ first ++ mask = c.in_ok-bytes.ensures.items ∙ c.deref.ensures.0 ∙ masked in
     c.in_ok-extend_with_links.ensures.ok ∙ ap (λ (old : List ℕ). old ++ links) bytes ∙ append_assoc first mask links

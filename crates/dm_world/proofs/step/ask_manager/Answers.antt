@@ -1,5 +1,5 @@
 use Rattle.dm_world.proofs.Names.{sym, subst, Err, IsLawfulState, asks_move, ActsLawfully, MayAskMove, AnswersSome, GaveSome, asks_lawfully, node_in}
-use Rattle.dm_world.proofs.Nodes.{acted_some, here_at, is_node_at, node_at, small, stopped, turn_sendable}
+use Rattle.dm_world.proofs.Nodes.{acted_some, here_at, is_node_at, node_at, small, stopped}
 use Rattle.dm_world.proofs.step.ask_manager.Goals as goal
 
 pub ask_move-requires-clause-may : goal.ask_move-requires-clause-may
@@ -12,8 +12,8 @@ ask_move-requires-clause-lawful c =
 pub ask_move-requires-clause-streams : goal.ask_move-requires-clause-streams
 ask_move-requires-clause-streams c = (is_node_at c.args.nodes.now c.place_of.result c.args.m c.index-nodes-place_of.result c.place_of.ensures c.requires.within c.requires.nodes).streams
 
-pub returns-in-Ok-clause-answers : goal.returns-in-Ok-clause-answers
-returns-in-Ok-clause-answers c =
+pub returns-in-Ok : goal.returns-in-Ok
+returns-in-Ok c =
     let b = c.args.boot.now in
     let nodes = c.args.nodes.now in
     let n = node_in b nodes c.args.m in
@@ -23,19 +23,8 @@ returns-in-Ok-clause-answers c =
     (λ a e. subst (λ k. ActsLawfully k a) (here_at b nodes c.args.m c.index-nodes-place_of.result c.requires.within c.requires.nodes)
     (asks_lawfully n c.args.pid c.args.to a (small c.args.to c.requires.to) c.requires.may c.requires.lawful e))
 
-pub returns-in-Ok-clause-outs : goal.returns-in-Ok-clause-outs
-returns-in-Ok-clause-outs c =
-    let b = c.args.boot.now in
-    let nodes = c.args.nodes.now in
-    let n = node_in b nodes c.args.m in
-    let same = node_at b nodes c.place_of.result c.args.m c.index-nodes-place_of.result c.place_of.ensures c.requires.within in
-    let gave = subst (λ s. GaveSome c.ask_move.new.self c.args.empty.items c.ask_move.new.outs.items (asks_move s c.args.pid c.args.to)) same c.in-Ok.ensures in
-    turn_sendable c.args.m c.ask_move.new.self c.args.empty.items c.ask_move.new.outs.items (asks_move n c.args.pid c.args.to) c.requires.empty gave
-    (λ a e. subst (λ k. ActsLawfully k a) (here_at b nodes c.args.m c.index-nodes-place_of.result c.requires.within c.requires.nodes)
-    (asks_lawfully n c.args.pid c.args.to a (small c.args.to c.requires.to) c.requires.may c.requires.lawful e))
-
-pub returns-in-Err-clause-answers : goal.returns-in-Err-clause-answers
-returns-in-Err-clause-answers c =
+pub returns-in-Err : goal.returns-in-Err
+returns-in-Err c =
     let b = c.args.boot.now in
     let nodes = c.args.nodes.now in
     let n = node_in b nodes c.args.m in

@@ -1,5 +1,5 @@
 use Rattle.dm_world.proofs.Names.{sym, subst, Err, IsLawfulState, ActsLawfully, AnswersSome, GaveSome, node_in, calls_off, MayCallOff, calls_off_lawfully}
-use Rattle.dm_world.proofs.Nodes.{acted_some, here_at, is_node_at, node_at, stopped, turn_sendable}
+use Rattle.dm_world.proofs.Nodes.{acted_some, here_at, is_node_at, node_at, stopped}
 use Rattle.dm_world.proofs.step.call_off.Goals as goal
 
 pub call_off-requires-clause-may : goal.call_off-requires-clause-may
@@ -13,8 +13,8 @@ call_off-requires-clause-lawful c =
 pub call_off-requires-clause-streams : goal.call_off-requires-clause-streams
 call_off-requires-clause-streams c = (is_node_at c.args.nodes.now c.place_of.result c.args.m c.index-nodes-place_of.result c.place_of.ensures c.requires.within c.requires.nodes).streams
 
-pub returns-in-Ok-clause-answers : goal.returns-in-Ok-clause-answers
-returns-in-Ok-clause-answers c =
+pub returns-in-Ok : goal.returns-in-Ok
+returns-in-Ok c =
     let b = c.args.boot.now in
     let nodes = c.args.nodes.now in
     let n = node_in b nodes c.args.m in
@@ -24,19 +24,8 @@ returns-in-Ok-clause-answers c =
     (λ a e. subst (λ k. ActsLawfully k a) (here_at b nodes c.args.m c.index-nodes-place_of.result c.requires.within c.requires.nodes)
     (calls_off_lawfully n c.args.pid a c.requires.may c.requires.lawful e))
 
-pub returns-in-Ok-clause-outs : goal.returns-in-Ok-clause-outs
-returns-in-Ok-clause-outs c =
-    let b = c.args.boot.now in
-    let nodes = c.args.nodes.now in
-    let n = node_in b nodes c.args.m in
-    let same = node_at b nodes c.place_of.result c.args.m c.index-nodes-place_of.result c.place_of.ensures c.requires.within in
-    let gave = subst (λ s. GaveSome c.call_off.new.self c.args.empty.items c.call_off.new.outs.items (calls_off s c.args.pid)) same c.in-Ok.ensures in
-    turn_sendable c.args.m c.call_off.new.self c.args.empty.items c.call_off.new.outs.items (calls_off n c.args.pid) c.requires.empty gave
-    (λ a e. subst (λ k. ActsLawfully k a) (here_at b nodes c.args.m c.index-nodes-place_of.result c.requires.within c.requires.nodes)
-    (calls_off_lawfully n c.args.pid a c.requires.may c.requires.lawful e))
-
-pub returns-in-Err-clause-answers : goal.returns-in-Err-clause-answers
-returns-in-Err-clause-answers c =
+pub returns-in-Err : goal.returns-in-Err
+returns-in-Err c =
     let b = c.args.boot.now in
     let nodes = c.args.nodes.now in
     let n = node_in b nodes c.args.m in

@@ -1,5 +1,5 @@
 use Rattle.dm_world.proofs.Names.{sym, subst, arrives_packet, ActsLawfully, MayArrivePacket, Gave, node_in}
-use Rattle.dm_world.proofs.Nodes.{acted, all_sendable, here_at, is_node_at, node_at, packet_lawfully}
+use Rattle.dm_world.proofs.Nodes.{acted, here_at, is_node_at, node_at, packet_lawfully}
 use Rattle.dm_world.proofs.step.receive.Goals as goal
 
 pub arrive-requires-clause-may : goal.arrive-requires-clause-may
@@ -9,8 +9,8 @@ arrive-requires-clause-may c =
 pub arrive-requires-clause-streams : goal.arrive-requires-clause-streams
 arrive-requires-clause-streams c = (is_node_at c.args.nodes.now c.from.result c.args.m c.index-nodes-from.result c.from.ensures c.requires.within c.requires.nodes).streams
 
-pub returns-clause-answers : goal.returns-clause-answers
-returns-clause-answers c =
+pub returns : goal.returns
+returns c =
     let b = c.args.boot.now in
     let nodes = c.args.nodes.now in
     let n = node_in b nodes c.args.m in
@@ -20,18 +20,4 @@ returns-clause-answers c =
     let same = node_at b nodes c.from.result c.args.m c.index-nodes-from.result c.from.ensures c.requires.within in
     let gave = subst (λ s. Gave x c.args.empty.items outs (arrives_packet s p)) same c.in_ok-arrive.ensures in
     acted b nodes c.from.result c.args.m x outs (arrives_packet n p) c.from.ensures c.requires.within c.requires.nodes (subst (λ ys. Gave x ys outs (arrives_packet n p)) c.requires.empty gave)
-    (subst (λ k. ActsLawfully k (arrives_packet n p)) (here_at b nodes c.args.m c.index-nodes-from.result c.requires.within c.requires.nodes) (packet_lawfully n p c.requires.may))
-
-pub returns-clause-outs : goal.returns-clause-outs
-returns-clause-outs c =
-    let b = c.args.boot.now in
-    let nodes = c.args.nodes.now in
-    let n = node_in b nodes c.args.m in
-    let p = c.args.packet in
-    let x = c.arrive.new.self in
-    let outs = c.arrive.new.outs.items in
-    let same = node_at b nodes c.from.result c.args.m c.index-nodes-from.result c.from.ensures c.requires.within in
-    let gave = subst (λ s. Gave x c.args.empty.items outs (arrives_packet s p)) same c.in_ok-arrive.ensures in
-    let all = subst (λ ys. Gave x ys outs (arrives_packet n p)) c.requires.empty gave in
-    all_sendable c.args.m (arrives_packet n p) outs all.outs
     (subst (λ k. ActsLawfully k (arrives_packet n p)) (here_at b nodes c.args.m c.index-nodes-from.result c.requires.within c.requires.nodes) (packet_lawfully n p c.requires.may))

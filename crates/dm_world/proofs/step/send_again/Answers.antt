@@ -1,5 +1,5 @@
-use Rattle.dm_world.proofs.Names.{◌++◌, ◌∙◌, ap, refl, sym, subst, tick, ActsLawfully, MayAct, HasStreams, ticks_lawfully, node_in, node_state}
-use Rattle.dm_world.proofs.Nodes.{acted_still, all_sendable, here_at, is_node_at, node_at}
+use Rattle.dm_world.proofs.Names.{◌++◌, ◌∙◌, ap, refl, sym, subst, tick, MayAct, HasStreams, node_in, node_state}
+use Rattle.dm_world.proofs.Nodes.{acted_still, is_node_at, node_at}
 use Rattle.dm_world.proofs.step.send_again.Goals as goal
 
 pub tick-requires-clause-may : goal.tick-requires-clause-may
@@ -9,21 +9,11 @@ tick-requires-clause-may c =
 pub tick-requires-clause-streams : goal.tick-requires-clause-streams
 tick-requires-clause-streams c = subst HasStreams (sym c.index-nodes-from.is) (is_node_at c.args.nodes.now c.from.result c.args.m c.index-nodes-from.result c.from.ensures c.requires.within c.requires.nodes).streams
 
-pub returns-clause-answers : goal.returns-clause-answers
-returns-clause-answers c =
+pub returns : goal.returns
+returns c =
     let b = c.args.boot.now in
     let nodes = c.args.nodes.now in
     let n = node_in b nodes c.args.m in
     let same = ap node_state c.index-nodes-from.is ∙ node_at b nodes c.from.result c.args.m c.index-nodes-from.result c.from.ensures c.requires.within in
     acted_still b nodes c.args.m c.tick.new.outs.items (tick n) c.requires.nodes refl
     (c.in_ok-tick.ensures.outs ∙ ap (λ xs. xs ++ (tick (node_state c.index-nodes-from.result)).outs) c.requires.empty ∙ ap (λ s. (tick s).outs) same)
-
-pub returns-clause-outs : goal.returns-clause-outs
-returns-clause-outs c =
-    let b = c.args.boot.now in
-    let nodes = c.args.nodes.now in
-    let n = node_in b nodes c.args.m in
-    let same = ap node_state c.index-nodes-from.is ∙ node_at b nodes c.from.result c.args.m c.index-nodes-from.result c.from.ensures c.requires.within in
-    all_sendable c.args.m (tick n) c.tick.new.outs.items
-    (c.in_ok-tick.ensures.outs ∙ ap (λ xs. xs ++ (tick (node_state c.index-nodes-from.result)).outs) c.requires.empty ∙ ap (λ s. (tick s).outs) same)
-    (subst (λ k. ActsLawfully k (tick n)) (here_at b nodes c.args.m c.index-nodes-from.result c.requires.within c.requires.nodes) (ticks_lawfully n c.requires.may))

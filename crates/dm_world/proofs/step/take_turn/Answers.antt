@@ -1,5 +1,5 @@
 use Rattle.dm_world.proofs.Names.{sym, subst, Err, FreezesWhole, IsLawfulState, turn, ActsLawfully, MayTurn, AnswersSome, GaveSome, IfWorn, turns_lawfully, node_in}
-use Rattle.dm_world.proofs.Nodes.{acted_some, here_at, is_node_at, node_at, stopped, turn_sendable}
+use Rattle.dm_world.proofs.Nodes.{acted_some, here_at, is_node_at, node_at, stopped}
 use Rattle.dm_world.proofs.step.take_turn.Goals as goal
 
 pub turn-requires-clause-may : goal.turn-requires-clause-may
@@ -21,17 +21,6 @@ returns-in-Ok-clause-answers c =
     let same = node_at b nodes c.place_of.result c.args.m c.index-nodes-place_of.result c.place_of.ensures c.requires.within in
     let gave = subst (λ s. GaveSome c.turn.new.self c.args.empty.items c.turn.new.outs.items (turn b s)) same c.in-Ok.ensures.answers in
     acted_some b nodes c.place_of.result c.args.m c.turn.new.self c.args.empty.items c.turn.new.outs.items (turn b n) c.place_of.ensures c.requires.within c.requires.nodes c.requires.empty gave
-    (λ a e. subst (λ k. ActsLawfully k a) (here_at b nodes c.args.m c.index-nodes-place_of.result c.requires.within c.requires.nodes)
-    (turns_lawfully b n a c.requires.images c.requires.may c.requires.lawful e))
-
-pub returns-in-Ok-clause-outs : goal.returns-in-Ok-clause-outs
-returns-in-Ok-clause-outs c =
-    let b = c.args.boot.now in
-    let nodes = c.args.nodes.now in
-    let n = node_in b nodes c.args.m in
-    let same = node_at b nodes c.place_of.result c.args.m c.index-nodes-place_of.result c.place_of.ensures c.requires.within in
-    let gave = subst (λ s. GaveSome c.turn.new.self c.args.empty.items c.turn.new.outs.items (turn b s)) same c.in-Ok.ensures.answers in
-    turn_sendable c.args.m c.turn.new.self c.args.empty.items c.turn.new.outs.items (turn b n) c.requires.empty gave
     (λ a e. subst (λ k. ActsLawfully k a) (here_at b nodes c.args.m c.index-nodes-place_of.result c.requires.within c.requires.nodes)
     (turns_lawfully b n a c.requires.images c.requires.may c.requires.lawful e))
 

@@ -1,15 +1,21 @@
-use Rattle.dm_node.proofs.Names.{◌<◌, ◌∷◌, sym, ap, subst, ◌∙◌, Ok, into_iter_items, All-rest, IsLawfulPart, acts, routes, Answers, node_state}
-use Rattle.dm_node.proofs.Parts.{all_done, gave_streams, line_said, message_routed, routed_counts}
+use Rattle.dm_node.proofs.Names.{◌∷◌, sym, ap, subst, ◌∙◌, Ok, into_iter_items, All, All-head, All-rest, IsLawfulPart, acts, routes, Answers, node_state}
+use Rattle.dm_kernel.specs.declared.part.Part.TheVariants.{Routes}
+use Rattle.dm_node.proofs.Parts.{all_done, gave_streams, line_said, message_routed}
+use Rattle.dm_node.proofs.Staying.{gave_may, routes_may}
 use Rattle.dm_node.proofs.node.Node.act.Goals as goal
 
 pub route-requires-clause-streams : goal.route-requires-clause-streams
 route-requires-clause-streams c = c.loop-part.invariant.streams
 
-pub route-requires-clause-home : goal.route-requires-clause-home
-route-requires-clause-home c = c.loop-part.invariant.home
+pub route-requires-clause-may : goal.route-requires-clause-may
+route-requires-clause-may c = c.loop-part.invariant.may
 
-pub route-requires-clause-numbers : goal.route-requires-clause-numbers
-route-requires-clause-numbers c = subst (λ k. k < 4294967296) (sym c.loop-part.invariant.numbers) c.requires.numbers
+pub route-requires-clause-lawful : goal.route-requires-clause-lawful
+route-requires-clause-lawful c =
+    let here = c.loop-part in
+    let left = into_iter_items c.next.new.self in
+    let is = c.in-Some.ensures.steps.0 ∙ ap (λ p. p ∷ left) c.in-Routes.is in
+    All-head IsLawfulPart (Routes c.in-Routes.message) left (subst (All IsLawfulPart) is here.invariant.fit)
 
 pub loop-part-preserved : goal.loop-part-preserved
 loop-part-preserved c =
@@ -18,14 +24,13 @@ loop-part-preserved c =
     let left = into_iter_items c.next.new.self in
     let gave = c.in_ok-route-in-Routes.ensures in
     let is = c.in-Some.ensures.steps.0 ∙ ap (λ p. p ∷ left) c.in-Routes.is in
-    let counts = routed_counts n c.route.new.self here.outs.items c.route.new.outs.items c.in-Routes.message here.invariant.home gave in
+    let lawful = All-head IsLawfulPart (Routes c.in-Routes.message) left (subst (All IsLawfulPart) is here.invariant.fit) in
     record {
       can_next = tt;
       finite = tt;
       fit = All-rest IsLawfulPart c.in-Some.part left (into_iter_items here.part-iterator) c.in-Some.ensures.steps.0 here.invariant.fit;
       streams = gave_streams (routes n c.in-Routes.message) c.route.new.self here.outs.items c.route.new.outs.items gave;
-      home = counts.home;
-      numbers = counts.numbers ∙ here.invariant.numbers;
+      may = gave_may (routes n c.in-Routes.message) c.route.new.self here.outs.items c.route.new.outs.items gave (routes_may n c.in-Routes.message lawful here.invariant.may);
       rest = λ r after new g.
           here.invariant.rest r after new
           (subst (λ ps. Answers r after here.outs.items new (acts n ps)) (sym is)
@@ -43,8 +48,7 @@ loop-part-preserved-in-Continue-1 c =
       finite = tt;
       fit = All-rest IsLawfulPart c.in-Some.part left (into_iter_items here.part-iterator) c.in-Some.ensures.steps.0 here.invariant.fit;
       streams = here.invariant.streams;
-      home = here.invariant.home;
-      numbers = here.invariant.numbers;
+      may = here.invariant.may;
       rest = λ r after new g.
           here.invariant.rest r after new
           (subst (λ ps. Answers r after here.outs.items new (acts n ps)) (sym is)

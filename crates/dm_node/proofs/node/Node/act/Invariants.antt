@@ -1,4 +1,4 @@
-use Rattle.dm_node.proofs.Names.{◌≡◌, ◌≤◌, List, Result, into_iter_items, All, IsLawfulPart, Node, Stop, Out, acts, Answers, HasStreams, node_state}
+use Rattle.dm_node.proofs.Names.{List, Result, into_iter_items, All, IsLawfulPart, Node, Stop, Out, acts, MayAct, Answers, HasStreams, node_state}
 use Rattle.dm_node.proofs.node.Node.act.Given as goal
 
 -- what answers the parts that are left answers all
@@ -9,8 +9,7 @@ invariant-loop-part l =
       finite : (goal.iterator-loop-part).is_finite l.part-iterator;
       fit : All IsLawfulPart (into_iter_items l.part-iterator);
       streams : HasStreams l.self;
-      home : l.self.home ≤ l.self.numbers;
-      numbers : l.self.numbers ≡ l.fn.self.numbers;
+      may : MayAct (node_state l.self);
       rest : (r : Result Unit Stop) (after : Node) (new : List Out) → Answers r after l.outs.items new (acts (node_state l.self) (into_iter_items l.part-iterator))
           → Answers r after l.fn.outs.items new (acts (node_state l.fn.self) l.fn.parts.items);
     }

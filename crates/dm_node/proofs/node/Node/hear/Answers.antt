@@ -1,6 +1,9 @@
 use Rattle.dm_node.proofs.Names.{◌≡◌, ◌<◌, ◌≤◌, false, true, [], ◌∷◌, ◌++◌, sym, ap, subst, ◌∙◌, arith, is_some, due, window, with_acked, Says, lets_go, Gave, node_state, here, with_sender}
 use Rattle.dm_line.specs.declared.line.Line.TheVariants as line
+use Rattle.dm_node.proofs.Names.{ℕ, ◌-◌, All-drop, IsLawfulMessage, IsRoute, MayAct}
 use Rattle.dm_node.proofs.Arrivals.{gave_before, none_goes, none_may_go, one_goes}
+use Rattle.dm_node.proofs.Sends.{route_of}
+use Rattle.dm_node.proofs.Staying.{due_here, due_may, with_sender_may}
 use Rattle.dm_node.proofs.node.Node.hear.Goals as goal
 
 pub loop-round-init : goal.loop-round-init
@@ -10,12 +13,21 @@ loop-round-init c =
     let said = c.push.new.outs.items in
     let now = with_sender n from (with_acked (n.senders from) c.args.count) in
     record {
+      may = subst MayAct (sym c.acked.ensures.state)
+          (with_sender_may n from (with_acked (n.senders from) c.args.count) c.requires.may.acts
+          (All-drop IsLawfulMessage (c.args.count - (n.senders from).acked) (n.senders from).unacked (c.requires.may.acts.unacked from c.requires.may.from.0)));
       streams = c.acked.ensures.streams;
+      here = ap here c.acked.ensures.state;
       rest = λ after new g.
           gave_before after c.args.outs.now.items said new (Says (line.Acked from (here n) c.args.count) ∷ []) (lets_go window now from)
           (c.in_ok-push.ensures.ok ∙ ap (λ h. c.args.outs.now.items ++ Says (line.Acked from h c.args.count) ∷ []) c.here.ensures)
           (subst (λ s. Gave after said new (lets_go window s from)) c.acked.ensures.state g);
     }
+
+pub send_due-requires-clause-route : goal.send_due-requires-clause-route
+send_due-requires-clause-route c =
+    let may = c.requires.may in
+    subst (λ (k : ℕ). IsRoute k c.args.from) (sym c.loop-round.invariant.here) (route_of (here (node_state c.args.self.now)) c.args.from may.acts.here may.from.0 may.from.1)
 
 pub returns-then-not-branch : goal.returns-then-not-branch
 returns-then-not-branch c =
@@ -34,8 +46,11 @@ loop-round-preserved c =
     let h : l._round < 8 = omega arith in
     let b = c.if-not-branch.false in
     let some : is_some (due (n.senders c.args.from)) ≡ true = sym c.in_ok-send_due.ensures.was ∙ b in
+    let sent = c.in_ok-send_due.ensures.gave.state in
     record {
+      may = subst MayAct (sym sent) (due_may n c.args.from (due (n.senders c.args.from)) c.requires.may.from.0 l.invariant.may);
       streams = c.in_ok-send_due.ensures.gave.streams;
+      here = ap here sent ∙ due_here n c.args.from (due (n.senders c.args.from)) ∙ l.invariant.here;
       rest = λ after new g.
           l.invariant.rest after new
           (one_goes l._round n c.send_due.new.self after c.args.from l.outs.items c.send_due.new.outs.items new h some c.in_ok-send_due.ensures.gave g);

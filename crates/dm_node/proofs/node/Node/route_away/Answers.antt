@@ -1,6 +1,22 @@
 use Rattle.dm_node.proofs.Names.{◌≡◌, ℕ, true, ◌++◌, ◌∷◌, [], ap, sym, subst, ◌∙◌, Message, Says, GaveActs, put_line, routes_away, node_state}
+use Rattle.dm_node.proofs.Names.{◌<◌, arith, here, IsRoute, MayAct}
 use Rattle.dm_node.proofs.States.{given, given_goes}
+use Rattle.dm_node.proofs.Staying.{given_may}
 use Rattle.dm_node.proofs.node.Node.route_away.Goals as goal
+
+pub send_due-requires-clause-may : goal.send_due-requires-clause-may
+send_due-requires-clause-may c =
+    let n = node_state c.args.self.now in
+    let m = c.args.message in
+    let to = c.get-said.result.now.to.at in
+    let same : to ≡ m.to.at = ap (λ (x : Message). x.to.at) c.get-said.ensures in
+    let small : to < 16 = omega (arith, same, c.requires.route.to) in
+    subst MayAct (sym c.in_ok-give.ensures.state) (given_may n to m small c.requires.lawful c.requires.may)
+
+pub send_due-requires-clause-route : goal.send_due-requires-clause-route
+send_due-requires-clause-route c =
+    let same = ap (λ (x : Message). x.to.at) c.get-said.ensures in
+    subst (λ (k : ℕ). IsRoute k c.get-said.result.now.to.at) (sym (ap here c.in_ok-give.ensures.state)) (subst (IsRoute c.args.self.now.kernel.here) (sym same) c.requires.route)
 
 pub returns-in_ok-send_due : goal.returns-in_ok-send_due
 returns-in_ok-send_due c =

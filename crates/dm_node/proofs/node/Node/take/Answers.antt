@@ -1,6 +1,17 @@
 use Rattle.dm_node.proofs.Names.{on_ok_weaker, after_arrival, arrival, node_state, with_receiver}
+use Rattle.dm_node.proofs.Names.{ℕ, ap, here, refl, sym, subst, ◌∙◌, IsRoute}
 use Rattle.dm_node.proofs.Arrivals.{message_came}
+use Rattle.dm_node.proofs.Sends.{in_lawfully, route_of}
 use Rattle.dm_node.proofs.node.Node.take.Goals as goal
+
+pub acknowledge-requires-clause-route : goal.acknowledge-requires-clause-route
+acknowledge-requires-clause-route c =
+    let n = node_state c.args.self.now in
+    let from = c.args.from in
+    let may = c.requires.may in
+    let came = node_state c.receive-arrived.new.self in
+    let stays = ap here c.in_ok-take_in.ensures.state ∙ (in_lawfully (here came) came from c.args.seq c.receive-arrived.result refl).here ∙ ap here c.receive-arrived.ensures.state in
+    subst (λ (k : ℕ). IsRoute k from) (sym stays) (route_of (here n) from may.acts.here may.from.0 may.from.1)
 
 pub returns : goal.returns
 returns c =

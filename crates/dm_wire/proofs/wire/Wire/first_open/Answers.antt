@@ -1,7 +1,5 @@
 -- Nothing stands on a wire to a machine past the sixteenth.
-use Rattle.dm_wire.specs.Wire.{packets_on}
-use Rattle.dm_wire.proofs.Names.{◌≡◌, ◌<◌, ℕ, ap, sym, ◌∙◌, position, is_unseen}
-use Rattle.std.proofs.Common.{subst}
+use Rattle.dm_wire.proofs.Names.{packets_on, ◌<◌, ℕ, ap, sym, ◌∙◌, position, is_unseen, subst}
 use Rattle.dm_wire.proofs.Pending.{if_none, if_some, none_at}
 use Rattle.dm_wire.proofs.wire.Wire.first_open.Goals as goal
 
@@ -11,7 +9,7 @@ returns-clause-none c =
     let there : c.from.result < 16 = subst (λ (k : ℕ). k < 16) (sym c.from.ensures) c.requires in
     rw (sym c.self.view_is)
     (if_none c.first_from.result
-    (λ empty b from. sym (ap (λ (k : ℕ). position is_unseen (packets_on w.pairs.items k b)) c.from.ensures) ∙ none_at w.pending w.pairs.items c.from.result b _ c.self.invariant there (empty b from))
+    (λ empty b from. sym (ap (λ (k : ℕ). position is_unseen (packets_on w.pairs.items k b)) c.from.ensures) ∙ none_at w.pending w.pairs.items c.from.result b _ c.self.invariant.to there (empty b from))
     c.first_from.ensures.none)
 
 pub returns-clause-some : goal.returns-clause-some
@@ -20,5 +18,5 @@ returns-clause-some c =
     let there : c.from.result < 16 = subst (λ (k : ℕ). k < 16) (sym c.from.ensures) c.requires in
     rw (sym c.self.view_is)
     (if_some c.first_from.result
-    (λ k first. (first.from, λ b from below. sym (ap (λ (k : ℕ). position is_unseen (packets_on w.pairs.items k b)) c.from.ensures) ∙ none_at w.pending w.pairs.items c.from.result b _ c.self.invariant there (first.before b from below)))
+    (λ k first. (first.from, λ b from below. sym (ap (λ (k : ℕ). position is_unseen (packets_on w.pairs.items k b)) c.from.ensures) ∙ none_at w.pending w.pairs.items c.from.result b _ c.self.invariant.to there (first.before b from below)))
     c.first_from.ensures.some)

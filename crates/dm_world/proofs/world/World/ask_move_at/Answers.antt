@@ -14,7 +14,7 @@ returns-clause-meets c =
     let outs = c.in_ok-outs.outs.items in
     let e = step.Migrate c.args.pid c.args.to in
     let o = asks_move (node_in old.boot old.nodes.items c.args.seat) c.args.pid c.args.to in
-    let acts = rw c.deref_mut.ensures.value at c.in_ok-outs.ensures.answers in
+    let acts = rw c.deref_mut.ensures.value at c.in_ok-outs.ensures in
     let are = ap (λ v. v.items) c.group.ensures.nodes ∙ written old.nodes ys (acted_size old.boot old.nodes.items ys c.args.seat outs o acts) in
     record {
       answers = subst (λ (q : Option ℕ). MeetsSome (world_state now) c.in_ok-lines.lines.items (asks_at (world_state old) e c.args.pid c.args.to q)) (sym c.requires.seat) (turn_stepped old now ys (ended_in old.ended) e c.args.seat outs c.in_ok-lines.lines.items o acts are

@@ -11,7 +11,7 @@ returns-clause-meets c =
     let ys = c.call_off.new.nodes in
     let outs = c.in_ok-outs.outs.items in
     let o = calls_off (node_in old.boot old.nodes.items c.args.m) c.args.pid in
-    let acts = rw c.deref_mut.ensures.value at c.in_ok-outs.ensures.answers in
+    let acts = rw c.deref_mut.ensures.value at c.in_ok-outs.ensures in
     let are = ap (λ v. v.items) c.group.ensures.nodes ∙ written old.nodes ys (acted_size old.boot old.nodes.items ys c.args.m outs o acts) in
     record {
       answers = turn_stepped old now ys (ended_in old.ended) (step.CallOff c.args.pid c.args.m) c.args.m outs c.in_ok-lines.lines.items o acts are

@@ -11,7 +11,7 @@ returns-clause-meets c =
     let now = c.group.new.self in
     let ys = c.receive.new.nodes in
     let e = step.Deliver c.args.a c.args.b c.args.k in
-    let acts = rw c.deref_mut.ensures.value at c.in_ok-outs.ensures.answers in
+    let acts = rw c.deref_mut.ensures.value at c.in_ok-outs.ensures in
     let are = ap (λ v. v.items) c.group.ensures.nodes ∙ written old.nodes ys acts.size in
     record {
       answers = took old now ys (packets_on c.mark.new.self) e c.args.a c.args.b c.args.k c.args.packet c.in_ok-outs.outs.items c.in_ok-lines.lines.items
