@@ -1,13 +1,11 @@
 -- What the loops leave is what a text means.
 use Rattle.dm_asm.proofs.Names.{ℕ, List, [], ◌∷◌, ◌++◌, ◌≡◌, refl, ap, sym, ◌∙◌, append_assoc, Result, Ok, Err, append-nil, Labels, Why, AssembleError, Fault, NoMemory, Answers, assembled, places_of, with_lines, place_in, source_lines}
-use Rattle.dm_asm.proofs.Names.{literal_value, wanted_number, place_from, ◌>>=◌, bytes_behind, listed_bytes}
+use Rattle.dm_asm.proofs.Names.{literal_value, wanted_number, ◌>>=◌, bytes_behind, listed_bytes}
 
 -- with the table of its labels, the lines of a text give what it means
-pub meant : (labels : Labels) (text : List ℕ) → ((q : List ℕ) → place_in labels q ≡ place_from 1 0 (source_lines text) q) → with_lines (place_in labels) 1 [] (source_lines text) ≡ assembled text
-unfolding assembled places_of
-meant labels text h =
-    let same : place_in labels ≡ places_of text = λ i q. h q i in
-    ap (λ places. with_lines places 1 [] (source_lines text)) same
+pub meant : (labels : Labels) (text : List ℕ) → place_in labels ≡ places_of text → with_lines (place_in labels) 1 [] (source_lines text) ≡ assembled text
+unfolding assembled
+meant labels text same = ap (λ places. with_lines places 1 [] (source_lines text)) same
 
 -- a refusal of what is the same
 pub refused_alike : {A B : Type 0} (f : A → List ℕ) (g : B → List ℕ) (no : AssembleError) (m n : Result (List ℕ) (ℕ × Why)) → m ≡ n → Answers f (Err no) m → Answers g (Err no) n

@@ -1,30 +1,19 @@
 //! Assembling a text, line by line.
 ghost use Rattle.std.specs.Prelude.{◌≡◌, ◌≤◌, [], IfOk, OnOk, length, nat_lt};
-ghost use Rattle.std.specs.Option.{option_copied};
 ghost use Rattle.dm_reading.specs.Lines.{source_lines};
 ghost use Rattle.dm_asm.specs.Assembled.{Answers, assembled, at_line, with_line, with_lines};
 ghost use Rattle.dm_asm.specs.Labels.{place_in};
 ghost use Rattle.dm_asm.specs.Refusals.{Gives};
-ghost use Rattle.dm_asm.specs.Statements.{is_twice, line_bytes};
+ghost use Rattle.dm_asm.specs.Statements.{line_bytes};
 
 use crate::image::Image;
 use crate::labels::{Labels, split_label};
 use crate::lines::uncommented;
 use crate::refusals::{AssembleError, Stop, Why};
-use crate::statements::{add_statement, stands_elsewhere};
+use crate::statements::add_statement;
 use dm_processor::MOST_MEMORY;
 use dm_reading::first_source_line;
 use std::alloc::Global;
-
-/// Whether the label of a line, if any, is defined before.
-fn defined_before(labels: &Labels, line: usize, label: Option<&[u8]>) -> bool
-    ensures { result ≡ is_twice (place_in labels.now) line (option_copied label.entry) }
-{
-    match label {
-        None => false,
-        Some(name) => stands_elsewhere(line, labels.place(name)),
-    }
-}
 
 /// Whether an image of so many bytes is too long.
 fn is_too_long(bytes: usize) -> bool
@@ -41,7 +30,7 @@ fn add_line(labels: &Labels, image: &mut Vec<u8>, number: usize, line: &[u8]) ->
 {
     let line = uncommented(line);
     let (label, statement) = split_label(line);
-    let twice = defined_before(labels, number, label);
+    let twice = labels.is_twice(number, label);
     add_statement(labels, image, twice, line, statement)?;
     if is_too_long(image.len()) {
         return Err(Stop::Fault(Why::TooLong));

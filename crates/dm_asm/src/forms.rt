@@ -10,6 +10,7 @@ use dm_processor::Opcode;
 /// An instruction, or a directive.
 #[derive(Clone, Copy)]
 pub enum Form {
+    /// An instruction.
     Instruction(Opcode),
     /// `.word`: one word.
     Word,
@@ -26,12 +27,19 @@ pub enum Form {
 /// What the operands of an instruction are.
 #[derive(Clone, Copy)]
 pub enum Shape {
+    /// A register, and a number up to 65,535 or a label.
     RegisterValue,
+    /// Two registers.
     TwoRegisters,
+    /// Three registers.
     ThreeRegisters,
+    /// Two registers, and a number up to 255.
     Access,
+    /// A number up to 65,535, or a label.
     Jump,
+    /// Two registers, and a label that isn't far.
     Branch,
+    /// A call, by its number or its name.
     Call,
 }
 

@@ -1,12 +1,13 @@
 //! Where labels stand.
-ghost use Rattle.std.specs.Prelude.{◌≡◌, ◌<◌, ◌≤◌, ◌+◌, ℕ, List, IfOk, None, OnOk, Some, if◌then◌else◌};
+ghost use Rattle.std.specs.Prelude.{◌≡◌, ◌==◌, ◌<◌, ◌≤◌, ℕ, List, IfOk, None, OnOk, Some, false, if◌then◌else◌, not, option_map, unwrap_or};
 ghost use Rattle.std.specs.Option.{option_copied};
 ghost use Rattle.std.specs.Str.{bytes_eq};
-ghost use Rattle.dm_reading.specs.Lines.{source_lines};
 ghost use Rattle.dm_reading.specs.Words.{source_words};
+ghost use Rattle.dm_asm.specs.Assembled.{places_of};
 ghost use Rattle.dm_asm.specs.Labels.{place_in};
 ghost use Rattle.dm_asm.specs.Lines.{without_comment};
-ghost use Rattle.dm_asm.specs.Places.{behind_label, first_of, has_label, label_in, label_of_words, line_size, padding, padding_size, place_from, statement_size, text_size, zeros_size};
+ghost use Rattle.dm_asm.specs.Places.{behind_label, first_of, has_label, label_in, label_of_words, line_size, padding, padding_size, statement_size, text_size, zeros_size};
+ghost use Rattle.dm_asm.specs.Statements.{is_twice};
 ghost use Rattle.dm_asm.specs.Texts.{text_in, text_operand};
 
 use crate::forms::Form;
@@ -18,10 +19,12 @@ use dm_reading::{Gap, count_words, first_source_line, next_word};
 use std::alloc::Global;
 use std::collections::BTreeMap;
 
-/// Where a label is defined: its line, from 1, and its byte address.
+/// Where a label is defined.
 #[derive(Clone, Copy)]
 pub struct Place {
+    /// The line, from 1.
     pub line: usize,
+    /// The byte address: how many bytes the lines before it count.
     pub address: u128,
 }
 
@@ -76,7 +79,7 @@ fn label_of_word(word: &[u8]) -> Option<&[u8]>
     }
 }
 
-/// The label of a line, and what stands behind it.
+/// The label of a line without its comment, and what stands behind it.
 pub fn split_label(line: &[u8]) -> (Option<&[u8]>, &[u8])
     ensures label { option_copied result.0 ≡ label_of_words (source_words line.now) }
     ensures rest { source_words result.1.now ≡ behind_label (source_words line.now) }
@@ -91,7 +94,7 @@ pub fn split_label(line: &[u8]) -> (Option<&[u8]>, &[u8])
 }
 
 /// The label that a line defines, whatever stands behind it.
-pub(crate) fn defined_by(line: &[u8]) -> Option<&[u8]>
+pub fn defined_by(line: &[u8]) -> Option<&[u8]>
     ensures { option_copied result ≡ label_of_words (source_words (without_comment line.now)) }
 {
     let (label, _) = split_label(uncommented(line));
@@ -116,7 +119,7 @@ fn zeros_counted(operands: &[u8]) -> usize
 
 /// How many bytes it is from an address to the next multiple of a number.
 #[tactic(auto, unfolding(crate::specs::Places::padding))]
-pub fn padding(at: u128, multiple: u32) -> u32
+pub(crate) fn padding(at: u128, multiple: u32) -> u32
     requires { 0 < multiple }
     ensures value { result ≡ padding at multiple }
     ensures few { result ≤ multiple }
@@ -168,6 +171,16 @@ fn statement_counted(at: u128, line: &[u8], statement: &[u8]) -> usize
     }
 }
 
+/// Whether the first line with a label is another than this.
+fn stands_elsewhere(line: usize, place: Option<Place>) -> bool
+    ensures { result ≡ unwrap_or (option_map (λ p. not (p.line == line)) place) false }
+{
+    match place {
+        None => false,
+        Some(place) => place.line != line,
+    }
+}
+
 impl<'t> Labels<'t> {
     /// Defines the label of a line, if it has one and that isn't defined.
     #[tactic(auto, unfolding(crate::specs::Places::has_label))]
@@ -180,9 +193,23 @@ impl<'t> Labels<'t> {
         }
     }
 
+    /// Whether the label of a line, if it has one, stands first on another line.
+    pub fn is_twice(&self, line: usize, label: Option<&[u8]>) -> bool
+        ensures { result ≡ is_twice (place_in self.now) line (option_copied label.entry) }
+    {
+        match label {
+            None => false,
+            Some(name) => stands_elsewhere(line, self.place(name)),
+        }
+    }
+
     /// The labels of a text.
+    ///
+    /// # Errors
+    ///
+    /// There is no memory.
     pub fn of(alloc: Global, text: &'t [u8]) -> Result<Labels<'t>, NoMemory>
-        ensures ok { IfOk result (λ labels. (q : List ℕ) → place_in labels q ≡ place_from 1 0 (source_lines text.now) q) }
+        ensures ok { IfOk result (λ labels. place_in labels ≡ places_of text.now) }
     {
         let mut labels = Labels::new(alloc);
         let mut place = Place {
@@ -205,7 +232,7 @@ impl<'t> Labels<'t> {
 
 /// How many bytes a line counts at an address.
 #[tactic(auto, unfolding(crate::specs::Places::line_size))]
-pub(crate) fn line_counted(at: u128, line: &[u8]) -> usize
+pub fn line_counted(at: u128, line: &[u8]) -> usize
     ensures { result ≡ line_size at line.now }
 {
     let line = uncommented(line);

@@ -10,7 +10,7 @@ fn comment_start(line: &[u8]) -> Option<usize>
     line.iter().position(|c| *c == b';')
 }
 
-/// A line up to its comment.
+/// A line up to its comment, which begins at the first semicolon.
 pub fn uncommented(line: &[u8]) -> &[u8]
     ensures same { result.now ≡ without_comment line.now }
 {

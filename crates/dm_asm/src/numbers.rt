@@ -10,7 +10,7 @@ const HUGE: u64 = 1 << 32;
 
 /// The number that a word is, at most [`HUGE`].
 #[tactic(auto, unfolding(crate::specs::Numbers::literal_value))]
-pub fn number(word: &[u8]) -> Option<u64>
+pub(crate) fn number(word: &[u8]) -> Option<u64>
     ensures { result ≡ option_map (λ n. min n (2 ^ 32)) (literal_value word.now) }
 {
     if word.len() > 2 && word[0] == b'0' && word[1] == b'x' {
@@ -22,7 +22,7 @@ pub fn number(word: &[u8]) -> Option<u64>
     }
 }
 
-/// The register that a word names.
+/// The register that a word names, `r0` to `r15`: 0 to 15.
 pub fn register(word: &[u8]) -> Option<u8>
     ensures value { result ≡ register_of word.now }
     ensures small { IfSome result (λ r. r < 16) }
@@ -48,7 +48,7 @@ fn has_name_parts(word: &[u8]) -> bool
     word.iter().all(|c| can_be_in_name(*c))
 }
 
-/// Whether a word is a label's name.
+/// Whether a word is a label's name: 1 to 16 of `a-z`, `0-9` and `_`, the first no digit.
 pub fn is_label(word: &[u8]) -> bool
     ensures { result ≡ is_label_name word.now }
 {
@@ -59,7 +59,7 @@ pub fn is_label(word: &[u8]) -> bool
 }
 
 /// Whether a word is a label where one may stand.
-pub fn looks_like_label(word: &[u8]) -> bool
+pub(crate) fn looks_like_label(word: &[u8]) -> bool
     ensures { result ≡ begins_name word.now }
 {
     !word.is_empty() && (word[0].is_ascii_alphabetic() || word[0] == b'_')
@@ -67,7 +67,7 @@ pub fn looks_like_label(word: &[u8]) -> bool
 
 /// The number of the call that a word names: 1 to 8.
 #[tactic(auto, unfolding(crate::specs::Numbers::call_named))]
-pub fn call_named(word: &[u8]) -> Option<u8>
+pub(crate) fn call_named(word: &[u8]) -> Option<u8>
     ensures { result ≡ call_named word.now }
 {
     if word == b"EXIT".as_slice() {

@@ -15,6 +15,10 @@ use crate::refusals::Why;
 use dm_reading::{Gap, next_word};
 
 /// A number that a word must be, at most so large.
+///
+/// # Errors
+///
+/// The word is no number ([`Why::BadNumber`]), or the number is larger ([`Why::OutOfRange`]).
 pub fn number_within(word: &[u8], most: u32) -> Result<u32, Why>
     ensures value { result ≡ wanted_number most (literal_value word.now) }
     ensures small { IfOk result (λ n. n ≤ most) }
@@ -27,7 +31,11 @@ pub fn number_within(word: &[u8], most: u32) -> Result<u32, Why>
 }
 
 /// A number that a word must be of which an address is to be a multiple: 1 to 65,536.
-fn multiple_within(word: &[u8]) -> Result<u32, Why>
+///
+/// # Errors
+///
+/// The word is no number ([`Why::BadNumber`]), or the number is 0 or larger ([`Why::OutOfRange`]).
+pub fn multiple_within(word: &[u8]) -> Result<u32, Why>
     ensures value { result ≡ wanted_multiple (literal_value word.now) }
     ensures some { IfOk result (λ n. 0 < n) }
     ensures small { IfOk result (λ n. n ≤ 65536) }
@@ -40,8 +48,13 @@ fn multiple_within(word: &[u8]) -> Result<u32, Why>
 }
 
 /// A number or a label's address that a word must be, at most so large.
+///
+/// # Errors
+///
+/// The word looks like a label, and no line has it ([`Why::UnknownLabel`]); it is no number ([`Why::BadNumber`]); or the
+/// number or address is larger ([`Why::OutOfRange`]).
 #[tactic(auto, unfolding(crate::specs::Operands::operand_value))]
-fn value_within(labels: &Labels, word: &[u8], most: u32) -> Result<u32, Why>
+pub fn value_within(labels: &Labels, word: &[u8], most: u32) -> Result<u32, Why>
     ensures value { result ≡ operand_value (place_in labels.now) most word.now }
     ensures small { IfOk result (λ n. n ≤ most) }
 {
@@ -55,9 +68,13 @@ fn value_within(labels: &Labels, word: &[u8], most: u32) -> Result<u32, Why>
     }
 }
 
-/// The number of a call that a word must be, or name.
+/// The number of a call that a word must be, at most 255, or name.
+///
+/// # Errors
+///
+/// The word is no call's name and no number ([`Why::BadNumber`]), or the number is larger ([`Why::OutOfRange`]).
 #[tactic(auto, unfolding(crate::specs::Operands::call_value))]
-fn call_within(word: &[u8]) -> Result<u8, Why>
+pub fn call_within(word: &[u8]) -> Result<u8, Why>
     ensures { result ≡ call_value word.now }
 {
     match call_named(word) {
@@ -71,7 +88,7 @@ fn call_within(word: &[u8]) -> Result<u8, Why>
 
 /// How many words it is from behind the instruction at an address to a target, as a byte.
 fn words_between(at: u128, target: u128) -> Result<u8, Why>
-    requires { at < 2 ^ 64 }
+    requires { at ≤ 2 ^ 127 }
     ensures { result ≡ distance at target }
 {
     let behind = at + 4;
@@ -92,9 +109,16 @@ fn words_between(at: u128, target: u128) -> Result<u8, Why>
     }
 }
 
-/// The distance from the instruction at an address to the label that a word must be.
+/// The distance from the instruction at an address to the label that a word must be: words from behind the instruction,
+/// -128 to 127, as a byte.
+///
+/// # Errors
+///
+/// The word doesn't look like a label ([`Why::BadNumber`]), no line has it ([`Why::UnknownLabel`]), or it is farther away or
+/// at no whole word ([`Why::OutOfRange`]).
 #[tactic(auto, unfolding(crate::specs::Operands::distance_of))]
-fn distance_to(labels: &Labels, word: &[u8], at: usize) -> Result<u8, Why>
+pub fn distance_to(labels: &Labels, word: &[u8], at: u128) -> Result<u8, Why>
+    requires { at ≤ 2 ^ 127 }
     ensures { result ≡ distance_of (place_in labels.now) at word.now }
 {
     if !looks_like_label(word) {
@@ -102,13 +126,13 @@ fn distance_to(labels: &Labels, word: &[u8], at: usize) -> Result<u8, Why>
     }
     match labels.place(word) {
         None => Err(Why::UnknownLabel),
-        Some(place) => words_between(at as u128, place.address),
+        Some(place) => words_between(at, place.address),
     }
 }
 
 /// The register that the next word must be, and what stands behind it.
 #[tactic(auto, unfolding(crate::specs::Operands::register))]
-pub fn next_register(rest: &[u8]) -> Result<(u8, &[u8]), Why>
+pub(crate) fn next_register(rest: &[u8]) -> Result<(u8, &[u8]), Why>
     ensures { seen result ≡ register (source_words rest.now) }
 {
     match next_word(rest, Gap::Separators) {
@@ -122,7 +146,7 @@ pub fn next_register(rest: &[u8]) -> Result<(u8, &[u8]), Why>
 
 /// The number that the next word must be, and what stands behind it.
 #[tactic(auto, unfolding(crate::specs::Operands::number_operand))]
-pub fn next_number(rest: &[u8], most: u32) -> Result<(u32, &[u8]), Why>
+pub(crate) fn next_number(rest: &[u8], most: u32) -> Result<(u32, &[u8]), Why>
     ensures value { seen result ≡ number_operand most (source_words rest.now) }
     ensures small { IfOk result (λ x. x.0 ≤ most) }
 {
@@ -137,7 +161,7 @@ pub fn next_number(rest: &[u8], most: u32) -> Result<(u32, &[u8]), Why>
 
 /// The number that the next word must be of which an address is to be a multiple, and what stands behind it.
 #[tactic(auto, unfolding(crate::specs::Operands::multiple))]
-pub fn next_multiple(rest: &[u8]) -> Result<(u32, &[u8]), Why>
+pub(crate) fn next_multiple(rest: &[u8]) -> Result<(u32, &[u8]), Why>
     ensures value { seen result ≡ multiple (source_words rest.now) }
     ensures some { IfOk result (λ x. 0 < x.0) }
     ensures small { IfOk result (λ x. x.0 ≤ 65536) }
@@ -167,7 +191,11 @@ fn next_call(rest: &[u8]) -> Result<(u8, &[u8]), Why>
 
 /// The number or label's address that the next word must be, and what stands behind it.
 #[tactic(auto, unfolding(crate::specs::Operands::value))]
-pub fn next_value<'r>(labels: &Labels, rest: &'r [u8], most: u32) -> Result<(u32, &'r [u8]), Why>
+pub(crate) fn next_value<'r>(
+    labels: &Labels,
+    rest: &'r [u8],
+    most: u32,
+) -> Result<(u32, &'r [u8]), Why>
     ensures value { seen result ≡ value (place_in labels.now) most (source_words rest.now) }
     ensures small { IfOk result (λ x. x.0 ≤ most) }
 {
@@ -188,7 +216,7 @@ fn next_target<'r>(labels: &Labels, rest: &'r [u8], at: usize) -> Result<(u8, &'
 {
     match next_word(rest, Gap::Separators) {
         None => Err(Why::OperandCount),
-        Some((word, behind)) => match distance_to(labels, word, at) {
+        Some((word, behind)) => match distance_to(labels, word, at as u128) {
             Err(why) => Err(why),
             Ok(d) => Ok((d, behind)),
         },
@@ -205,7 +233,12 @@ fn two_bytes(n: u32) -> (u8, u8)
 }
 
 /// The three last bytes of an instruction at an address.
-pub fn last_bytes(labels: &Labels, at: usize, shape: Shape, rest: &[u8]) -> Result<[u8; 3], Why>
+pub(crate) fn last_bytes(
+    labels: &Labels,
+    at: usize,
+    shape: Shape,
+    rest: &[u8],
+) -> Result<[u8; 3], Why>
     ensures { result ≡ fields (place_in labels.now) at shape (source_words rest.now) }
 {
     match shape {

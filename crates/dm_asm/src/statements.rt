@@ -1,5 +1,5 @@
 //! The bytes of statements.
-ghost use Rattle.std.specs.Prelude.{◌≡◌, ◌==◌, None, false, length, not, option_map, unwrap_or};
+ghost use Rattle.std.specs.Prelude.{◌≡◌, None, length};
 ghost use Rattle.dm_reading.specs.Words.{source_words};
 ghost use Rattle.dm_asm.specs.Labels.{place_in};
 ghost use Rattle.dm_asm.specs.Refusals.{Gives, bytes_behind};
@@ -8,7 +8,7 @@ ghost use Rattle.dm_asm.specs.declared.forms.Form.TheVariants.{Align, Ascii, Byt
 ghost use Rattle.dm_asm.specs.Texts.{text_in, text_operand};
 
 use crate::forms::{Form, Shape};
-use crate::labels::{Labels, Place, padding};
+use crate::labels::{Labels, padding};
 use crate::operands::{last_bytes, next_multiple, next_number, next_value, number_within};
 use crate::refusals::{Stop, Why};
 use crate::texts::text_operand;
@@ -151,15 +151,5 @@ pub fn add_statement(
             }
             Some(_) => Err(Stop::Fault(Why::OperandCount)),
         },
-    }
-}
-
-/// Whether the first line with a label is another than this.
-pub fn stands_elsewhere(line: usize, place: Option<Place>) -> bool
-    ensures { result ≡ unwrap_or (option_map (λ p. not (p.line == line)) place) false }
-{
-    match place {
-        None => false,
-        Some(place) => place.line != line,
     }
 }

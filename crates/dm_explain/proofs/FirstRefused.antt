@@ -2,6 +2,7 @@
 use Rattle.dm_explain.proofs.Names.{◌≡◌, ℕ, ◌+◌, ◌<◌, ◌==◌, suc, Bool, true, false, if◌then◌else◌, List, [], ◌∷◌, ◌++◌, length, refl, ap, sym, subst, ◌∙◌, arith, Place, Why, or_why, operand_why, operands_why, source_lines}
 use Rattle.std.proofs.lemmas.List.{length-append, length-replicate}
 use Rattle.std.specs.Prelude.{◌&&◌, nat_le, nat_lt, Option, None, Some, Result, Ok, Err, ok_or, option_map, replicate, unwrap_or}
+use Rattle.std.specs.Result.{result_err}
 use Rattle.dm_processor.proofs.Names.{nat_tests}
 use Rattle.dm_processor.specs.Opcodes.{opcode_number}
 use Rattle.dm_processor.specs.declared.opcodes.Opcode.{Opcode}
@@ -31,7 +32,7 @@ use Rattle.dm_explain.specs.declared.source.Last.TheVariants as last
 unfoldable use Rattle.dm_explain.specs.BadSources.{takes_named}
 use Rattle.dm_explain.specs.BadSources.{shape_takes, takes, takes_of}
 unfoldable use Rattle.dm_explain.specs.TextFaults.{line_why, statement_why}
-use Rattle.dm_explain.specs.TextFaults.{given_why, is_due, is_text, long_why, named_why, text_why, why_of, words_why}
+use Rattle.dm_explain.specs.TextFaults.{given_why, is_due, is_text, long_why, named_why, text_why, words_why}
 use Rattle.dm_explain.specs.FirstRefused.{first_refused, refusal_of, refused_or}
 
 -- so many bytes where there is no reason, and else the reason
@@ -40,7 +41,7 @@ IsOf size o (Ok bytes) = (o ≡ None) × (length bytes ≡ size)
 IsOf size o (Err why) = o ≡ Some why
 
 -- an operand, and what is made of it
-of-operand : (size : ℕ) (o : Option Why) (r : Result ℕ Why) (ws : List (List ℕ)) (f : ℕ × List (List ℕ) → Result (List ℕ) Why) → ((v : ℕ) → IsOf size o (f (v, ws))) → IsOf size (or_why (why_of r) o) ((r >>= λ v. Ok (v, ws)) >>= f)
+of-operand : (size : ℕ) (o : Option Why) (r : Result ℕ Why) (ws : List (List ℕ)) (f : ℕ × List (List ℕ) → Result (List ℕ) Why) → ((v : ℕ) → IsOf size o (f (v, ws))) → IsOf size (or_why (result_err r) o) ((r >>= λ v. Ok (v, ws)) >>= f)
 of-operand size o (Ok v) ws f h = h v
 of-operand size o (Err why) ws f h = refl
 
@@ -104,14 +105,14 @@ instruction-of places at text op ws h =
     (of-bytes 3 4 (operands_why places at (shape_takes (shape_of op)) 1 ws) (fields places at (shape_of op) ws) (λ bs. opcode_number op ∷ bs) (fields-of places at (shape_of op) ws h) (λ bs e. ap suc e))
 
 -- a listed byte is no register
-byte-why : (places : List ℕ → Option Place) (at i : ℕ) (w : List ℕ) → 0 < i → operand_why places at (takes 0 last.Bytes) i w ≡ why_of (wanted_number 255 (literal_value w))
+byte-why : (places : List ℕ → Option Place) (at i : ℕ) (w : List ℕ) → 0 < i → operand_why places at (takes 0 last.Bytes) i w ≡ result_err (wanted_number 255 (literal_value w))
 unfolding operand_why
 byte-why places at i w some =
     let behind : nat_le i 0 ≡ false = grind (arith, nat_tests) in
-    ap (λ (b : Bool). if b then why_of (ok_or (register_of w) BadRegister) else why_of (wanted_number 255 (literal_value w))) behind
+    ap (λ (b : Bool). if b then result_err (ok_or (register_of w) BadRegister) else result_err (wanted_number 255 (literal_value w))) behind
 
 -- a listed byte, and the others
-listed-by : (n : ℕ) (o : Option Why) (r : Result ℕ Why) (others : Result (List ℕ) Why) → IsOf n o others → IsOf (suc n) (or_why (why_of r) o) (r >>= λ first. (others >>= λ bs. Ok (first ∷ bs)))
+listed-by : (n : ℕ) (o : Option Why) (r : Result ℕ Why) (others : Result (List ℕ) Why) → IsOf n o others → IsOf (suc n) (or_why (result_err r) o) (r >>= λ first. (others >>= λ bs. Ok (first ∷ bs)))
 listed-by n o (Ok first) others h = of-bytes n (suc n) o others (λ bs. first ∷ bs) h (λ bs e. ap suc e)
 listed-by n o (Err why) others h = refl
 
@@ -124,28 +125,28 @@ listed-of places at i (w ∷ ws) some =
     (listed-by (length ws) (operands_why places at (takes 0 last.Bytes) (i + 1) ws) (wanted_number 255 (literal_value w)) (listed_bytes ws) (listed-of places at (i + 1) ws (omega (arith, some))))
 
 -- zeros, by the test of their number
-zeros-by : (b : Bool) (n : ℕ) → IsOf (if b then n else 0) (or_why (why_of (if b then Ok n else Err OutOfRange)) None) (((if b then Ok n else Err OutOfRange) >>= λ v. Ok (v, [])) >>= λ (m : ℕ × List (List ℕ)). Ok (replicate m.0 0))
+zeros-by : (b : Bool) (n : ℕ) → IsOf (if b then n else 0) (or_why (result_err (if b then Ok n else Err OutOfRange)) None) (((if b then Ok n else Err OutOfRange) >>= λ v. Ok (v, [])) >>= λ (m : ℕ × List (List ℕ)). Ok (replicate m.0 0))
 zeros-by true n = (refl, length-replicate n 0)
 zeros-by false n = refl
 
 zeros-of : (o : Option ℕ)
-    → IsOf (unwrap_or (option_map (λ n. if nat_le n 65536 then n else 0) o) 0) (or_why (why_of (wanted_number 65536 o)) None) ((wanted_number 65536 o >>= λ v. Ok (v, [])) >>= λ (m : ℕ × List (List ℕ)). Ok (replicate m.0 0))
+    → IsOf (unwrap_or (option_map (λ n. if nat_le n 65536 then n else 0) o) 0) (or_why (result_err (wanted_number 65536 o)) None) ((wanted_number 65536 o >>= λ v. Ok (v, [])) >>= λ (m : ℕ × List (List ℕ)). Ok (replicate m.0 0))
 zeros-of None = refl
 zeros-of (Some n) = zeros-by (nat_le n 65536) n
 
 -- zeros up to a multiple, by the test of its number
 padding-by : (b : Bool) (at n : ℕ)
-    → IsOf (if b then padding at n else 0) (or_why (why_of (if b then Ok n else Err OutOfRange)) None) (((if b then Ok n else Err OutOfRange) >>= λ v. Ok (v, [])) >>= λ (m : ℕ × List (List ℕ)). Ok (replicate (padding at m.0) 0))
+    → IsOf (if b then padding at n else 0) (or_why (result_err (if b then Ok n else Err OutOfRange)) None) (((if b then Ok n else Err OutOfRange) >>= λ v. Ok (v, [])) >>= λ (m : ℕ × List (List ℕ)). Ok (replicate (padding at m.0) 0))
 padding-by true at n = (refl, length-replicate (padding at n) 0)
 padding-by false at n = refl
 
 padding-of : (at : ℕ) (o : Option ℕ)
-    → IsOf (unwrap_or (option_map (λ n. if is_multiple n then padding at n else 0) o) 0) (or_why (why_of (wanted_multiple o)) None) ((wanted_multiple o >>= λ v. Ok (v, [])) >>= λ (m : ℕ × List (List ℕ)). Ok (replicate (padding at m.0) 0))
+    → IsOf (unwrap_or (option_map (λ n. if is_multiple n then padding at n else 0) o) 0) (or_why (result_err (wanted_multiple o)) None) ((wanted_multiple o >>= λ v. Ok (v, [])) >>= λ (m : ℕ × List (List ℕ)). Ok (replicate (padding at m.0) 0))
 padding-of at None = refl
 padding-of at (Some n) = padding-by (is_multiple n) at n
 
 -- a text
-text-of : (o : Option (List ℕ)) → IsOf (length (unwrap_or o [])) (why_of (ok_or o BadNumber)) (ok_or o BadNumber)
+text-of : (o : Option (List ℕ)) → IsOf (length (unwrap_or o [])) (result_err (ok_or o BadNumber)) (ok_or o BadNumber)
 text-of None = refl
 text-of (Some bytes) = (refl, refl)
 

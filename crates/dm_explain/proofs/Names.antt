@@ -10,12 +10,12 @@ pub use Rattle.dm_boot.proofs.Imports.{Data, Value, drop_more, drop_of_length-le
 pub use Rattle.dm_boot.specs.Tables.{has_only}
 pub use Rattle.dm_reading.specs.Words.{source_words}
 unfoldable pub use Rattle.dm_explain.specs.BadSources.{bad_word, is_fine}
+pub use Rattle.dm_asm.specs.Labels.{place_in}
 pub use Rattle.dm_asm.specs.declared.labels.Place.{Place}
 pub use Rattle.dm_asm.specs.declared.refusals.Why.{Why}
-pub use Rattle.dm_explain.specs.declared.program.labels.Spot.{Spot}
 pub use Rattle.dm_explain.specs.declared.source.Takes.{Takes}
-pub use Rattle.dm_explain.specs.TextFaults.{or_why, place_of}
-unfoldable pub use Rattle.dm_explain.specs.TextFaults.{operand_why, operands_why, place_in}
+pub use Rattle.dm_explain.specs.TextFaults.{or_why}
+unfoldable pub use Rattle.dm_explain.specs.TextFaults.{operand_why, operands_why}
 pub use Rattle.dm_explain.specs.TextPlace.{next_line, opens}
 unfoldable pub use Rattle.dm_explain.specs.TextPlace.{line_before}
 unfoldable pub use Rattle.dm_explain.specs.Told.{later_images, later_lines}

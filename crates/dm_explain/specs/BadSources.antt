@@ -1,5 +1,5 @@
 -- Which operand of a line of an image's text is refused, and what it must be.
-use Rattle.std.specs.Prelude.{ℕ, ◌+◌, ◌-◌, ◌==◌, ◌&&◌, not, nat_le, take, slice_index, Bool, true, false, if◌then◌else◌, codes, List, [], ◌∷◌, ◌++◌, Option, None, Some, Result, Ok, Err, length}
+use Rattle.std.specs.Prelude.{ℕ, ◌+◌, ◌-◌, ◌==◌, ◌&&◌, not, nat_le, take, slice_index, Bool, true, false, if◌then◌else◌, codes, List, [], ◌∷◌, ◌++◌, Option, None, Some, is_ok, length}
 use Rattle.std.specs.Option.{is_some, option_map}
 use Rattle.std.specs.List.{concat}
 use Rattle.std.specs.Fmt.{decimal}
@@ -85,13 +85,9 @@ pub record BadWord : Type 0 where
 abbrev pub bad_word_of : Wrong → BadWord
 bad_word_of b = record { place = b.place; word = b.word.now }
 
-abbrev pub has_value : Result ℕ Why → Bool
-has_value (Ok n) = true
-has_value (Err why) = false
-
 -- an operand behind the registers can't be the one that is refused: only one of several bytes can
 abbrev pub is_fine_last : Last → List ℕ → Bool
-is_fine_last last.Bytes w = has_value (wanted_number 255 (literal_value w))
+is_fine_last last.Bytes w = is_ok (wanted_number 255 (literal_value w))
 is_fine_last last.Nothing w = false
 is_fine_last (last.Number n) w = false
 is_fine_last (last.Value n) w = false

@@ -1,8 +1,6 @@
 -- Which lines of an image's text are refused, and why.
-use Rattle.std.specs.Prelude.{ℕ, ◌+◌, ◌==◌, ◌&&◌, nat_le, nat_lt, Bool, true, false, if◌then◌else◌, List, [], ◌∷◌, length, Option, None, Some, Result, Ok, Err, ok_or, option_map}
-use Rattle.std.specs.BTreeMap.{get_by}
-use Rattle.std.specs.Cmp.Lexicographic.{slice_cmp}
-use Rattle.std.specs.Ordering.{nat_cmp}
+use Rattle.std.specs.Prelude.{ℕ, ◌+◌, ◌==◌, ◌&&◌, nat_le, nat_lt, Bool, true, false, if◌then◌else◌, List, [], ◌∷◌, length, Option, None, Some, ok_or}
+use Rattle.std.specs.Result.{result_err}
 use Rattle.dm_reading.specs.Words.{source_words}
 use Rattle.dm_asm.specs.declared.labels.Place.{Place}
 use Rattle.dm_asm.specs.declared.refusals.Why.{Why}
@@ -13,24 +11,10 @@ use Rattle.dm_asm.specs.Operands.{call_value, distance_of, operand_value, wanted
 use Rattle.dm_asm.specs.Places.{behind_label, label_of_words, line_size}
 use Rattle.dm_asm.specs.Statements.{is_twice}
 use Rattle.dm_asm.specs.Texts.{text_in, text_operand}
-use Rattle.dm_explain.specs.declared.program.labels.Labels.{Labels}
-use Rattle.dm_explain.specs.declared.program.labels.Spot.{Spot}
 use Rattle.dm_explain.specs.declared.source.Last.{Last}
 use Rattle.dm_explain.specs.declared.source.Last.TheVariants as last
 use Rattle.dm_explain.specs.declared.source.Takes.{Takes}
 use Rattle.dm_explain.specs.BadSources.{takes_named}
-
--- where a table has a label
-abbrev pub place_of : Spot → Place
-place_of s = record { line = s.line; address = s.address }
-
-unfoldable pub place_in : Labels → List ℕ → Option Place
-place_in labels name = option_map place_of (get_by (λ k. slice_cmp nat_cmp name k.now) labels.map)
-
--- why there is no value
-abbrev pub why_of : {A : Type 0} → Result A Why → Option Why
-why_of (Ok x) = None
-why_of (Err why) = Some why
 
 -- the first of two reasons, if there is one
 abbrev pub or_why : Option Why → Option Why → Option Why
@@ -40,17 +24,17 @@ or_why (Some why) other = Some why
 -- why a word is refused behind the registers of an instruction or directive at an address
 abbrev pub last_why : (List ℕ → Option Place) → ℕ → Last → List ℕ → Option Why
 last_why places at last.Nothing w = None
-last_why places at (last.Number most) w = why_of (wanted_number most (literal_value w))
-last_why places at (last.Value most) w = why_of (operand_value places most w)
-last_why places at last.Label w = why_of (distance_of places at w)
-last_why places at last.Multiple w = why_of (wanted_multiple (literal_value w))
+last_why places at (last.Number most) w = result_err (wanted_number most (literal_value w))
+last_why places at (last.Value most) w = result_err (operand_value places most w)
+last_why places at last.Label w = result_err (distance_of places at w)
+last_why places at last.Multiple w = result_err (wanted_multiple (literal_value w))
 last_why places at last.Text w = None
-last_why places at last.Call w = why_of (call_value w)
-last_why places at last.Bytes w = why_of (wanted_number 255 (literal_value w))
+last_why places at last.Call w = result_err (call_value w)
+last_why places at last.Bytes w = result_err (wanted_number 255 (literal_value w))
 
 -- why the operand at a place is
 unfoldable pub operand_why : (List ℕ → Option Place) → ℕ → Takes → ℕ → List ℕ → Option Why
-operand_why places at t i w = if nat_le i t.registers then why_of (ok_or (register_of w) BadRegister) else last_why places at t.last w
+operand_why places at t i w = if nat_le i t.registers then result_err (ok_or (register_of w) BadRegister) else last_why places at t.last w
 
 -- and the first of the operands from a place on that is
 unfoldable pub operands_why : (List ℕ → Option Place) → ℕ → Takes → ℕ → List (List ℕ) → Option Why
@@ -81,7 +65,7 @@ is_text last.Text = true
 
 -- why a text is refused as operand
 abbrev pub text_why : Option (List ℕ) → List (List ℕ) → Option Why
-text_why text ws = why_of (ok_or (text_operand text ws) BadNumber)
+text_why text ws = result_err (ok_or (text_operand text ws) BadNumber)
 
 -- why as many operands as there must be are refused, in a line with this text
 abbrev pub given_why : (List ℕ → Option Place) → ℕ → Option (List ℕ) → Takes → List (List ℕ) → Option Why

@@ -5,16 +5,17 @@ ghost use Rattle.std.specs.List.{concat};
 ghost use Rattle.toml.specs.View.{view};
 ghost use Rattle.dm_reading.specs.Lines.{source_lines};
 ghost use Rattle.dm_asm.specs.Assembled.{assembled, places_of};
+ghost use Rattle.dm_asm.specs.Labels.{place_in};
 ghost use Rattle.dm_boot.specs.Tables.{text_at};
 ghost use Rattle.dm_explain.specs.BadSources.{last_of, source_of};
-ghost use Rattle.dm_explain.specs.TextFaults.{place_in};
 ghost use Rattle.dm_explain.specs.TextPlace.{line_before};
 ghost use Rattle.dm_explain.specs.Told.{again_told, image_line_told, label_note, later_lines, line_fault_told, literal_note, note_told, place_told, program_told, refusal_told, rule_title, whole_program_told};
 
 use crate::part::{Part, put, put_parts};
-use crate::program::{Labels, defined_by, line_before, line_counted, line_why};
+use crate::program::{line_before, line_why};
 use crate::source::{Last, statement_of};
 use crate::told::refused::put_refused;
+use dm_asm::labels::{Labels, defined_by, line_counted};
 use dm_asm::{AssembleError, Why, assemble};
 use dm_boot::BootRule;
 use dm_boot::tables::text_at;
@@ -165,9 +166,9 @@ fn put_label_note(into: &mut Vec<u8>, labels: &Labels, label: Option<&[u8]>) -> 
 {
     match label {
         None => Ok(()),
-        Some(name) => match labels.spot(name) {
+        Some(name) => match labels.place(name) {
             None => Ok(()),
-            Some(spot) => put_first_line(into, spot.line),
+            Some(place) => put_first_line(into, place.line),
         },
     }
 }

@@ -4,10 +4,11 @@ ghost use Rattle.dm_reading.specs.Words.{source_words};
 ghost use Rattle.dm_explain.specs.BadSources.{bad_word_of, bad_word_told, bytes_due, detail, detail_told, due_told, known_told, label_or_word_told, last_of, last_range, missing_value_words, most_told, no_label_told, no_word_told, refused_told, seen, source_of, unknown_told, which_told, why_words};
 
 use crate::part::{Part, put, put_parts};
-use crate::program::split_label;
 use crate::schedule::{put_counts, put_said};
-use crate::source::{Last, Statement, Takes, Wrong, bad_word, no_label, statement_of, uncommented};
+use crate::source::{Last, Statement, Takes, Wrong, bad_word, no_label, statement_of};
 use dm_asm::Why;
+use dm_asm::labels::split_label;
+use dm_asm::lines::uncommented;
 use dm_memory::NoMemory;
 use dm_reading::{Gap, count_words, next_word};
 
