@@ -8,7 +8,7 @@ pub use Rattle.clap.specs.Faults.{short_fault, step_fault, stray_fault, use_faul
 unfoldable pub use Rattle.clap.specs.Faults.{flags_fault, walk_fault}
 pub use Rattle.clap.specs.Kinds.{check_kinds, or_else, range_kinds}
 pub use Rattle.clap.specs.Lexer.{long_of, short_of}
-pub use Rattle.clap.specs.Simple.{Shape, app_of_fields, argument_words, built, entered, label_of, names_of as labels_of, on_top, rows_at, subcommand_of}
+pub use Rattle.clap.specs.Simple.{Shape, app_of_fields, argument_words, built, entered, label_of, names_of as labels_of, new_shape, on_top, rows_at, subcommand_of}
 pub use Rattle.clap.specs.Takes.{is_given}
 pub use Rattle.clap.specs.Walk.{Held, Names, Outcome, Row, Rule, Step, Waiting, Walk, action_of, after_flag, after_step, answers_to, arg_by_id, arg_by_index, arg_by_long, arg_by_short, at_row, attached_value, bundle_step, default_rows}
 pub use Rattle.clap.specs.Walk.{done, finished, first_of, flag_met, has_row, idle, is_empty, is_pending, long_met, long_or_other, more_values, most_values, next, nothing_held, option, option_met, option_word, plain, plain_word, positional}
@@ -25,7 +25,7 @@ pub use Rattle.clap.specs.declared.parser.matches.ValueSource.TheVariants.{Comma
 pub use Rattle.std.proofs.Common.{ap₂, tests}
 pub use Rattle.std.proofs.lemmas.Iterator.{YieldsList-from_slice}
 pub use Rattle.std.proofs.lemmas.Iterator.Search.{any_from_yields_List}
-pub use Rattle.std.proofs.lemmas.List.{drop_all, drop_more}
+pub use Rattle.std.proofs.lemmas.List.{drop_all, drop_more, map_more}
 pub use Rattle.std.proofs.lemmas.List.Sums.{sum_by-cons}
 pub use Rattle.std.proofs.lemmas.Result.{IfOk-weaker}
 pub use Rattle.std.specs.List.{count_by}
@@ -36,22 +36,21 @@ pub use Rattle.dm_memory.specs.Clap.{FailsBy}
 pub use Rattle.dm_memory.specs.declared.of_clap.MatchesError.{MatchesError}
 pub use Rattle.dm_processor.proofs.Names.{replicate}
 pub use Rattle.dm_linktable.proofs.Names.{cond, set}
+pub use Rattle.dm_schedule.proofs.Names.{take_all}
 pub use Rattle.dm_draw.proofs.Names.{inl, inr, rules, ◌⊎◌}
 pub use Rattle.dm_draw.specs.declared.drill.Shows.{Shows}
 pub use Rattle.dm_process.proofs.Names.{slice_get}
 pub use Rattle.dm_text.proofs.Names.{Err, Ok, length-append, ne_eqb}
 pub use Rattle.dm_shape.proofs.Imports.{Bool, List, None, Option, Some, [], ap, arith, behind, bytes_eq, codes, drop, false, get_or, if◌then◌else◌, is_some, length, list_all, list_any, map, nat_le, nat_tests, not, option_map, read_u32}
-pub use Rattle.dm_shape.proofs.Imports.{read_u8, refl, subst, suc, sym, true, zero, ℕ, ◌&&◌, ◌++◌, ◌+◌, ◌-◌, ◌<◌, ◌||◌, ◌∙◌, ◌∷◌, ◌≡◌, ◌≤◌}
-pub use Rattle.dm_words.specs.Arguments.{HasOptions, IsOption}
+pub use Rattle.dm_shape.proofs.Imports.{read_u8, refl, subst, suc, sym, take, true, zero, ℕ, ◌&&◌, ◌++◌, ◌+◌, ◌-◌, ◌<◌, ◌||◌, ◌∙◌, ◌∷◌, ◌≡◌, ◌≤◌}
+pub use Rattle.dm_words.specs.Arguments.{HasOptions, IsOption, option_rule, with_options}
 pub use Rattle.dm_words.specs.ChartWords.{chart_command, chart_request, charting, group_in, takes_chart}
 pub use Rattle.dm_words.specs.CheckWords.{check_command, check_request, checking, is_just_one}
 pub use Rattle.dm_words.specs.CountWords.{count_command, count_request}
-pub use Rattle.dm_words.specs.DrillWords.{IsWithin, OwnIsWithin, drawn_by, drill_by, drill_command, drill_request, flag_option, has_system, if_within, lines_asked, machines_asked, number_option, own_by, run_by, schedule_of, seed_of}
-pub use Rattle.dm_words.specs.DrillWords.{shows_by, trace_of}
+pub use Rattle.dm_words.specs.DrillWords.{IsWithin, OwnIsWithin, drawn_by, drill_by, drill_command, drill_request, has_system, if_within, lines_asked, machines_asked, own_by, run_by, schedule_of, seed_of, shows_by, trace_of}
 pub use Rattle.dm_words.specs.ExplainWords.{explain_command, explaining}
-pub use Rattle.dm_words.specs.ExploreWords.{ExploreIsWithin, acks_of, all_read, depth_of, exploration_of, explore_command, explore_request, exploring, few_of, filling, listed, looking_for, many_option, most_in, most_of, with_names}
-pub use Rattle.dm_words.specs.ExploreWords.{with_numbers}
-pub use Rattle.dm_words.specs.FileWords.{both_files, file_option, free_option}
+pub use Rattle.dm_words.specs.ExploreWords.{ExploreIsWithin, acks_of, all_read, depth_of, exploration_of, explore_command, explore_request, exploring, few_of, filling, listed, looking_for, most_in, most_of, with_names, with_numbers}
+pub use Rattle.dm_words.specs.FileWords.{both_files}
 pub use Rattle.dm_words.specs.LookWords.{groups_of, look_command, look_request, looking, names_of}
 pub use Rattle.dm_words.specs.Request.{Chart, Check, CheckLabels, Count, Drill, Explain, Explore, Judge, Look, OwnDrill, Request, Run}
 pub use Rattle.dm_words.specs.RunWords.{run_command, run_request}
@@ -60,6 +59,7 @@ unfoldable pub use Rattle.dm_words.specs.Usage.{bad_value_of, is_named, usage_pi
 pub use Rattle.dm_words.specs.Words.{AreTaken, Command, HasShape, IsTaken, bare, commands, demosmp, request_at, request_in, request_of}
 pub use Rattle.dm_words.specs.Written.{is_filled, is_text, written_move, written_name}
 unfoldable pub use Rattle.dm_words.specs.Written.{are_words}
+pub use Rattle.dm_words.specs.declared.argument.CommandOption.{CommandOption}
 pub use Rattle.dm_words.specs.declared.explore.Exploration.{Exploration}
 pub use Rattle.dm_words.specs.declared.explore.WrittenMove.{WrittenMove}
 pub use Rattle.dm_words.specs.declared.explore.WrittenName.{WrittenName}

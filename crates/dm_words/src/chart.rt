@@ -5,21 +5,26 @@ ghost use Rattle.clap.specs.Words.{found_of, rows_of};
 ghost use Rattle.dm_words.specs.ChartWords.{chart_command as chart_shape, chart_request as chart_asked, charting, group_in, is_group_or_none, takes_chart};
 ghost use Rattle.dm_words.specs.Words.{HasShape, IsInRange, request_said};
 
-use crate::argument::{file, free, value, with_option};
+use crate::argument::{CommandOption, value, with_options};
 use crate::words::Request;
 use clap::{ArgMatches, Command};
 use dm_memory::NoMemory;
 use dm_shape::names::count;
 use std::alloc::Global;
 
+/// The options of `chart`.
+const OPTIONS: [CommandOption<'static>; 4] = [
+    CommandOption::Needed("boot"),
+    CommandOption::Needed("schedule"),
+    CommandOption::Free("from"),
+    CommandOption::Free("to"),
+];
+
 /// The command `chart`.
 pub fn chart_command<'a>(alloc: Global) -> Result<Command<'a>, NoMemory>
     ensures { IfOk result (HasShape chart_shape) }
 {
-    let chart = with_option(Ok(Command::new(alloc, "chart")), file(alloc, "boot"));
-    let chart = with_option(chart, file(alloc, "schedule"));
-    let chart = with_option(chart, free(alloc, "from"));
-    with_option(chart, free(alloc, "to"))
+    with_options(alloc, "chart", &OPTIONS)
 }
 
 /// The two files that the matches of `chart` name, and the numbers of the groups from which and to which it is to draw.

@@ -4,7 +4,7 @@ ghost use Rattle.clap.specs.Words.{found_of, rows_of};
 ghost use Rattle.dm_words.specs.DrillWords.{drill_command as drill_shape, drill_request as drill_asked, lines_asked, lines_in, machines_asked, machines_in, own_by, run_by, schedule_of, seed_of, shows_by, trace_of};
 ghost use Rattle.dm_words.specs.Words.{HasShape, IsInRange, request_said};
 
-use crate::argument::{flag, free, is_set, number, value, with_option};
+use crate::argument::{CommandOption, is_set, value, with_options};
 use crate::words::Request;
 use clap::{ArgMatches, Command};
 use dm_draw::drill::{Drill, OwnDrill, Shows};
@@ -16,16 +16,21 @@ use std::alloc::Global;
 /// The most directives that a drill draws.
 pub const MOST_LINES: u32 = 10_000;
 
+/// The options of `drill`.
+const OPTIONS: [CommandOption<'static>; 6] = [
+    CommandOption::Needed("seed"),
+    CommandOption::Needed("lines"),
+    CommandOption::Free("machines"),
+    CommandOption::Free("boot"),
+    CommandOption::Flag("trace"),
+    CommandOption::Flag("schedule"),
+];
+
 /// The command `drill`.
 pub fn drill_command<'a>(alloc: Global) -> Result<Command<'a>, NoMemory>
     ensures { IfOk result (HasShape drill_shape) }
 {
-    let drill = with_option(Ok(Command::new(alloc, "drill")), number(alloc, "seed"));
-    let drill = with_option(drill, number(alloc, "lines"));
-    let drill = with_option(drill, free(alloc, "machines"));
-    let drill = with_option(drill, free(alloc, "boot"));
-    let drill = with_option(drill, flag(alloc, "trace"));
-    with_option(drill, flag(alloc, "schedule"))
+    with_options(alloc, "drill", &OPTIONS)
 }
 
 /// The drill that the matches of `drill` ask for, where its numbers are in their ranges.

@@ -5,7 +5,7 @@ ghost use Rattle.dm_words.specs.ExploreWords.{ExploreIsWithin, all_read, depth_i
 ghost use Rattle.dm_words.specs.Words.{HasShape, IsInRange, request_said};
 ghost use Rattle.dm_words.specs.Written.{written_move, written_name};
 
-use crate::argument::{file, flag, free, is_set, many, number, value, values, with_option};
+use crate::argument::{CommandOption, is_set, value, values, with_options};
 use crate::words::Request;
 use crate::written::{is_text, written_move, written_name};
 use clap::{ArgMatches, Command};
@@ -55,20 +55,25 @@ pub struct Exploration {
     pub acks: bool,
 }
 
+/// The options of `explore`.
+const OPTIONS: [CommandOption<'static>; 10] = [
+    CommandOption::Needed("boot"),
+    CommandOption::Needed("depth"),
+    CommandOption::Free("line"),
+    CommandOption::Many("stuck"),
+    CommandOption::Many("move"),
+    CommandOption::Many("calloff"),
+    CommandOption::Free("ticks"),
+    CommandOption::Free("repeats"),
+    CommandOption::Flag("acks"),
+    CommandOption::Free("most"),
+];
+
 /// The command `explore`.
 pub fn explore_command<'a>(alloc: Global) -> Result<Command<'a>, NoMemory>
     ensures { IfOk result (HasShape explore_shape) }
 {
-    let explore = with_option(Ok(Command::new(alloc, "explore")), file(alloc, "boot"));
-    let explore = with_option(explore, number(alloc, "depth"));
-    let explore = with_option(explore, free(alloc, "line"));
-    let explore = with_option(explore, many(alloc, "stuck"));
-    let explore = with_option(explore, many(alloc, "move"));
-    let explore = with_option(explore, many(alloc, "calloff"));
-    let explore = with_option(explore, free(alloc, "ticks"));
-    let explore = with_option(explore, free(alloc, "repeats"));
-    let explore = with_option(explore, flag(alloc, "acks"));
-    with_option(explore, free(alloc, "most"))
+    with_options(alloc, "explore", &OPTIONS)
 }
 
 /// What the matches of `explore` ask for, where its numbers are in their ranges, and a line or processes are looked for.

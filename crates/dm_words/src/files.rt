@@ -8,11 +8,25 @@ ghost use Rattle.dm_words.specs.FileWords.{file_command as file_shape};
 ghost use Rattle.dm_words.specs.RunWords.{run_request as run_asked};
 ghost use Rattle.dm_words.specs.Words.{HasShape, IsInRange, request_said};
 
-use crate::argument::{file, free, value, with_option};
+use crate::argument::{CommandOption, value, with_options};
 use crate::words::Request;
 use clap::{ArgMatches, Command};
 use dm_memory::NoMemory;
 use std::alloc::Global;
+
+/// The options of `check`.
+const CHECK_OPTIONS: [CommandOption<'static>; 3] = [
+    CommandOption::Needed("boot"),
+    CommandOption::Free("trace"),
+    CommandOption::Free("labels"),
+];
+
+/// The options of `explain`.
+const EXPLAIN_OPTIONS: [CommandOption<'static>; 3] = [
+    CommandOption::Needed("boot"),
+    CommandOption::Free("schedule"),
+    CommandOption::Free("trace"),
+];
 
 /// A command that names two files.
 pub fn file_command<'a>(
@@ -23,26 +37,22 @@ pub fn file_command<'a>(
 ) -> Result<Command<'a>, NoMemory>
     ensures { IfOk result (HasShape (file_shape name.now first.now second.now)) }
 {
-    let command = with_option(Ok(Command::new(alloc, name)), file(alloc, first));
-    with_option(command, file(alloc, second))
+    let options = [CommandOption::Needed(first), CommandOption::Needed(second)];
+    with_options(alloc, name, &options)
 }
 
 /// The command `check`.
 pub fn check_command<'a>(alloc: Global) -> Result<Command<'a>, NoMemory>
     ensures { IfOk result (HasShape check_shape) }
 {
-    let check = with_option(Ok(Command::new(alloc, "check")), file(alloc, "boot"));
-    let check = with_option(check, free(alloc, "trace"));
-    with_option(check, free(alloc, "labels"))
+    with_options(alloc, "check", &CHECK_OPTIONS)
 }
 
 /// The command `explain`.
 pub fn explain_command<'a>(alloc: Global) -> Result<Command<'a>, NoMemory>
     ensures { IfOk result (HasShape explain_shape) }
 {
-    let explain = with_option(Ok(Command::new(alloc, "explain")), file(alloc, "boot"));
-    let explain = with_option(explain, free(alloc, "schedule"));
-    with_option(explain, free(alloc, "trace"))
+    with_options(alloc, "explain", &EXPLAIN_OPTIONS)
 }
 
 /// The two files that the matches of `run` name.

@@ -4,21 +4,26 @@ ghost use Rattle.clap.specs.Words.{found_of, rows_of};
 ghost use Rattle.dm_words.specs.LookWords.{groups_of, look_command as look_shape, look_request as look_asked, looking};
 ghost use Rattle.dm_words.specs.Words.{HasShape, IsInRange, request_said};
 
-use crate::argument::{file, flag, is_set, number, value, with_option};
+use crate::argument::{CommandOption, is_set, value, with_options};
 use crate::words::Request;
 use clap::{ArgMatches, Command};
 use dm_memory::NoMemory;
 use dm_shape::names::count;
 use std::alloc::Global;
 
+/// The options of `look`.
+const OPTIONS: [CommandOption<'static>; 4] = [
+    CommandOption::Needed("boot"),
+    CommandOption::Needed("schedule"),
+    CommandOption::Needed("at"),
+    CommandOption::Flag("names"),
+];
+
 /// The command `look`.
 pub fn look_command<'a>(alloc: Global) -> Result<Command<'a>, NoMemory>
     ensures { IfOk result (HasShape look_shape) }
 {
-    let look = with_option(Ok(Command::new(alloc, "look")), file(alloc, "boot"));
-    let look = with_option(look, file(alloc, "schedule"));
-    let look = with_option(look, number(alloc, "at"));
-    with_option(look, flag(alloc, "names"))
+    with_options(alloc, "look", &OPTIONS)
 }
 
 /// The two files and the number of groups that the matches of `look` name, and whether names are asked for.
