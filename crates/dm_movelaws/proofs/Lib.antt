@@ -27,3 +27,4 @@ pub mod ProtocolMoves
 pub mod LifeLines
 pub mod ServerLines
 pub mod Preds
+pub mod Settles

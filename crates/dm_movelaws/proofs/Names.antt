@@ -1,8 +1,16 @@
 -- What the proofs of this crate name of what lies below it.
+pub use Rattle.std.proofs.Common.{mul-add, mul-one, mul-suc, suc-mul}
 pub use Rattle.std.proofs.Math.Seq.{drop-nil}
+pub use Rattle.std.proofs.lemmas.Bool.{eqb-false}
+pub use Rattle.std.proofs.lemmas.Bool.Decides.{leb_tells}
 pub use Rattle.std.proofs.lemmas.List.Elements.{filter-append}
+pub use Rattle.std.proofs.lemmas.List.Elements.{All-append, All-cons, All-nil}
+pub use Rattle.std.proofs.lemmas.Nat.{mul-le}
+pub use Rattle.std.specs.List.{All}
 pub use Rattle.std.specs.Option.{option_and_then}
 unfoldable pub use Rattle.dm_processor.specs.Instructions.{instruction}
+pub use Rattle.dm_schedule.proofs.Names.{◌^◌}
+pub use Rattle.dm_onekernel.specs.Manager.{pending_numbered}
 pub use Rattle.dm_onekernel.specs.Pieces.{piece_of}
 pub use Rattle.dm_onekernel.specs.Service.{manager_took}
 pub use Rattle.dm_onekernel.specs.Start.{begun as started}
@@ -12,18 +20,26 @@ pub use Rattle.dm_laws.proofs.Notes.{Notes-agree}
 pub use Rattle.dm_laws.proofs.Runs.{ended_stays, notes_always_agree, reached}
 pub use Rattle.dm_laws.proofs.Sound.{not_counted}
 pub use Rattle.dm_laws.proofs.Steps.{Sent-from}
+pub use Rattle.dm_line.proofs.Deliveries.{here_or_later}
+pub use Rattle.dm_line.proofs.Names.{eqb_tells}
+pub use Rattle.dm_line.specs.Each.{sum_below}
 pub use Rattle.dm_line.specs.Ends.{block_line, home_with, joined_below, list_line, memory_lines, trimmed}
 pub use Rattle.dm_line.specs.Todo.{or}
+pub use Rattle.dm_line.specs.Todo.{Seen, Two, begin_pass, below, following, in_pass, next_and_left, next_delivery, next_directive, next_pass, next_turn, pairs_of, pairs_with, pass_begun, settles, takes_turn}
 pub use Rattle.dm_line.specs.declared.end_line.EndLine.{EndLine}
 pub use Rattle.dm_line.specs.declared.end_line.Standing.{Standing}
+pub use Rattle.dm_line.specs.declared.pass.Pass.{Pass}
+pub use Rattle.dm_line.specs.declared.pass.Pass.TheVariants.{Settle}
 pub use Rattle.dm_rule.proofs.Apart.Groups.{moves_known, moving_stays_always, outcome_apart}
 pub use Rattle.dm_rule.proofs.Apart.Rows.{ApartOf, FirstApart, SparesPart, apart_first}
 pub use Rattle.dm_rule.proofs.Apart.Turns.{calls_off_apart, migrates_apart, net_apart, turns_apart}
 pub use Rattle.dm_rule.proofs.Bags.{bag_asked, cases_zero, out_of}
 pub use Rattle.dm_rule.proofs.Changes.{Follows, Lives, is_served}
 pub use Rattle.dm_rule.proofs.Groups.{GroupIs, acked_off, deliver_off, early_off, fits, migrate_off, tick_off}
+pub use Rattle.dm_rule.proofs.Groups.{stands_once_always}
 pub use Rattle.dm_rule.proofs.Hearing.{IsHeardLine, Kept, calls_off_kept, hears_kept, kept_forward}
 pub use Rattle.dm_rule.proofs.Homes.{HomesAre}
+pub use Rattle.dm_rule.proofs.Homes.Calls.{or-left, or-right}
 pub use Rattle.dm_rule.proofs.Homes.Lines.{acting_label}
 pub use Rattle.dm_rule.proofs.Homes.Parts.{acting_taken}
 pub use Rattle.dm_rule.proofs.Homes.Servers.{still_pending}
@@ -38,11 +54,20 @@ pub use Rattle.dm_rule.proofs.Names.{AddressesOn, Asks, Comes, ComesIn, IsOn, Is
 pub use Rattle.dm_rule.proofs.Names.{behind_count, belongs_to, both_true, brings_piece, child_links, counts_process, destination, drop-length, enclosed_from, encloses, first_trails, first_trodden, goes_round, ids_at, is_due, is_made}
 pub use Rattle.dm_rule.proofs.Names.{is_stale, is_unknown, is_waited_from, knowing, leads, leads_on, leads_to, left_true, manager_sends, next_is_new, numbers_from, receives_links, receiving_gets, released, sending_gets, sent_off}
 pub use Rattle.dm_rule.proofs.Names.{slice_get_cases, slice_get_within, slot_after, token_in, trails_after, unmoved, why_ended-is, with_pair, with_ring}
+pub use Rattle.dm_rule.proofs.Names.{IsAtRest, PairStands, Room, SentLoad, TellsRight, all_of, arrives, asks_on, at_least, at_rest, board_took, comes, comes_to, creation_parts, drop_parts, ended_handles, first_runnable, follows_by}
+pub use Rattle.dm_rule.proofs.Names.{gone_after, has, has_mail, has_room, here_handles, is_quiet, kept_from, kernel_handles, less, let_go, lt-ltb, manager_parts, marked_at, next_step, outstanding_count, pair_window, process_handles}
+pub use Rattle.dm_rule.proofs.Names.{repeats, resends, routes, says, seen_at, serves_some, takes_on, taking_parts, turns}
 pub use Rattle.dm_rule.proofs.Once.{one_of-same}
+pub use Rattle.dm_rule.proofs.Pairs.{Pairs, Pairs-always, Pairs-group, Pairs-start, acked_out_by, pair_home, pairs_stand_always}
+pub use Rattle.dm_rule.proofs.Pairs.Comes.{less-left}
 pub use Rattle.dm_rule.proofs.Pairs.Lines.{AllFit, line_view, onward, pair_same, taken_pair, touches}
+pub use Rattle.dm_rule.proofs.Pairs.Lines.{AllFit-later, Fits, Onward, fitting_goes, one_view, says_view, transmits_view, two_views}
 pub use Rattle.dm_rule.proofs.Pairs.Migrating.{calls_off_fit, migrates_fit}
+pub use Rattle.dm_rule.proofs.Pairs.Moves.{Paired, at_least-more, off, off_has, or_first as or_second}
 pub use Rattle.dm_rule.proofs.Pairs.Stand.{set_is, set_other}
+pub use Rattle.dm_rule.proofs.Pairs.Stand.{Apart, KeptStands, set_same, two_of}
 pub use Rattle.dm_rule.proofs.Pairs.Turns.{turns_fit}
+pub use Rattle.dm_rule.proofs.Pairs.Turns.{resends_fit}
 pub use Rattle.dm_rule.proofs.Phases.Always.{bury_away, ended_away, living_phase, phases_always, server_phase}
 pub use Rattle.dm_rule.proofs.Phases.Answers.{Remains, stale_left}
 pub use Rattle.dm_rule.proofs.Phases.Calm.{Calm, Plain, between_of, calm_about, calm_in, calm_same, other_than}
@@ -57,13 +82,17 @@ pub use Rattle.dm_rule.proofs.Phases.Put.{first_none, last_there, put_spot, put_
 pub use Rattle.dm_rule.proofs.Phases.Quiet.{Tame, line_calm, parts_settle, plain_in_bag, received_spots, tame_kind}
 pub use Rattle.dm_rule.proofs.Phases.Rests.{released_on}
 pub use Rattle.dm_rule.proofs.Phases.Stand.{called_known, comes_known, held_plain, piece_ways, pull_ways, queued_plain}
+pub use Rattle.dm_rule.proofs.Phases.Stand.{left_ways}
 pub use Rattle.dm_rule.proofs.Phases.Start.{start_known}
+pub use Rattle.dm_rule.proofs.QuietTests.{passes_quiet, quiet_passes, eq_is as test_same}
 pub use Rattle.dm_rule.proofs.Requests.{by_test}
+pub use Rattle.dm_rule.proofs.RestTests.{passes_rest, rest_passes}
 pub use Rattle.dm_rule.proofs.Said.{fits_as}
 pub use Rattle.dm_rule.proofs.Seen.{about_off}
 pub use Rattle.dm_rule.proofs.Serving.{Loose, buries_kept, ends_kept, loose_handles, loose_round}
 pub use Rattle.dm_rule.proofs.States.{PacketsKeep, PairsFit, said as last_point, packet_off, puts_next, said, says_next}
 pub use Rattle.dm_rule.proofs.Telling.{plain_not}
+pub use Rattle.dm_rule.proofs.Telling.{tells_right_always}
 pub use Rattle.dm_rule.proofs.Trails.Along.{Carries, along_treads, trails_always_by}
 pub use Rattle.dm_rule.proofs.Trails.Found.{treads_start}
 pub use Rattle.dm_rule.proofs.Trails.Known.{get_at_end}
@@ -75,14 +104,19 @@ pub use Rattle.dm_rule.proofs.Trails.Steps.{holds_on, sent_on_at, set_off, two_a
 pub use Rattle.dm_rule.proofs.Trails.Treads.{KnownFits, LabelFits, LineFits, PutFits, Treads, held_topic, line_treads, queued_topic, taken_topic}
 pub use Rattle.dm_rule.proofs.Trails.Within.{HeadIn, TrailsIn, Within, forwarded_acting, held_acting, line_within, queued_acting}
 pub use Rattle.dm_rule.proofs.Turns.{created_off, ended_off, serving_off}
+pub use Rattle.dm_rule.proofs.Worked.{groups, hi}
 pub use Rattle.dm_rule.specs.Acts.{Act}
 pub use Rattle.dm_rule.specs.Addresses.{child_gets}
 pub use Rattle.dm_rule.specs.Ends.{Stood, alive_lines, awaits, child_lines, doing_of, each_process, end_lines, first_with, holding_lines, homes_with, inbox_lines, link_lines, name_lines, pending_lines, process_lines, queue_at, queue_lines}
 pub use Rattle.dm_rule.specs.Ends.{is_moved, place_line, sent_lines, stands_here}
 pub use Rattle.dm_rule.specs.Ends.{server_lines, slot_line, standing_of, state_lines, stood, stood_at, stream_lines}
+pub use Rattle.dm_rule.specs.Ends.{leading}
+pub use Rattle.dm_rule.specs.Good.{IsKept, first_undelivered, undelivered}
 pub use Rattle.dm_rule.specs.Migrating.{Size, size_of}
 pub use Rattle.dm_rule.specs.Migrating.{answers_in, behind_among, by_known, holders_numbered, holders_of, slot_holders}
 pub use Rattle.dm_rule.specs.Rule.{handles, landing_parts}
+pub use Rattle.dm_rule.specs.Rule.{handles_here}
+pub use Rattle.dm_rule.specs.View.{is_own}
 pub use Rattle.dm_rulelaws.proofs.Based.Always.{based_always, based_group}
 pub use Rattle.dm_rulelaws.proofs.Based.Groups.{Begins, begins, buries_here, group_keeps}
 pub use Rattle.dm_rulelaws.proofs.Based.Loud.{Loud, SetLife, keeps_by, life_sort, some_alike, step_alike, step_creates, step_ends, step_serves}
@@ -133,11 +167,13 @@ pub use Rattle.dm_rulelaws.proofs.Names.{seen_none, sender_in, sender_of, sends_
 pub use Rattle.dm_rulelaws.proofs.Names.{subst, suc, switchboard, sym, take, taken_id, takes_block, takes_chunk, target_in, target_of, tells_asker, tells_between, tells_end, tells_onward, times, times-append, to_kernel, to_of, token_at}
 pub use Rattle.dm_rulelaws.proofs.Names.{token_is, told_between, told_ended, told_here, told_some, told_step, topic_by, true, turn_off, under_way, untaken, updated, updates, view_after, with_label, with_note, with_process}
 pub use Rattle.dm_rulelaws.proofs.Names.{with_sent, without_front, without_id, without_message, without_note, zero, ℕ, ⊤, ◌&&◌, ◌++◌, ◌+◌, ◌-◌, ◌/◌, ◌<◌, ◌==◌, ◌||◌, ◌∙◌, ◌∷◌, ◌≡◌, ◌≢◌, ◌≤◌, ◌⊎◌}
+pub use Rattle.dm_rulelaws.proofs.Names.{IsRun, Next, Todo, acting_dropped, at_id, dropped_for, free_room, marked, not_is, oldest, rings, routed_on, slice_set, turns_here, ◌*◌}
 pub use Rattle.dm_rulelaws.proofs.Own.Told.{is_place, own_sort}
 pub use Rattle.dm_rulelaws.proofs.Queued.{IsQueued}
 pub use Rattle.dm_rulelaws.proofs.RunLabels.{after_replay, group_replay, labels-append, replay-append}
 pub use Rattle.dm_rulelaws.proofs.Runs.{Based, Run}
 pub use Rattle.dm_rulelaws.proofs.RunsAlways.{run_always, run_group, run_start}
+pub use Rattle.dm_rulelaws.proofs.RunsAlways.{found_always}
 pub use Rattle.dm_rulelaws.specs.Found.{ListsStand}
 pub use Rattle.dm_movelaws.specs.Asked.{AnsweredAlways, AnswersHaveCauses, FollowsWhileMoving, HasCause, IsCause, IsSaidOf, MovedIsSaid, asks_move}
 pub use Rattle.dm_movelaws.specs.AtRest.{AllForgotten, AtRest, AtRestAlways, DropsAlways, IsAt, IsWaiting, is_moving}
@@ -148,12 +184,14 @@ pub use Rattle.dm_movelaws.specs.LifeLines.{IsPlace, IsSaid, LivesAreSaid, life_
 pub use Rattle.dm_movelaws.specs.Links.{CountsPromise, IsThere}
 pub use Rattle.dm_movelaws.specs.Lists.{IsFor, IsUserFor, ListsAlways, ListsForTheirs}
 pub use Rattle.dm_movelaws.specs.Movers.{HasEnded, HasPiece, MoversHavePieces, answers_piece, asks_piece}
+pub use Rattle.dm_movelaws.specs.Movers.{AnswersFor, AsksFor}
 pub use Rattle.dm_movelaws.specs.Numbers.{IsBelow, NumbersAlways}
 pub use Rattle.dm_movelaws.specs.Open.{AllOpen, IsAnothers, IsAnothersIf, IsSpared, OpenKeeps, OpenMoves, OpenSpares, OpenStays, is_open, mark_while, open_mark}
 pub use Rattle.dm_movelaws.specs.Pending.{HasOne, IsOfPending, PendingAscends, PendingHasOne, answered_by, asked_by, is_pending, requests}
 pub use Rattle.dm_movelaws.specs.Predecessors.{ByBury, ByCallOff, ByPreds, IsHeldBack, PredecessorsAlways, is_way_to}
 pub use Rattle.dm_movelaws.specs.Promise.{IsUnderWay, Promised, PromisesAlways, Unfilled, fills, update_of}
 pub use Rattle.dm_movelaws.specs.Protocol.{ProtocolMoves}
+pub use Rattle.dm_movelaws.specs.Protocol.{IsOfMove}
 pub use Rattle.dm_movelaws.specs.Real.{IsAboutReal, IsReal, Kernel, Made, RealAlways, Server}
 pub use Rattle.dm_movelaws.specs.Requested.{AnswersAreSo, AnswersSo, Directive, IsAsked, IsDirected, IsNamedMachine, IsRefused, IsSo, MovesAsNamed, Request, starts, takes_in}
 pub use Rattle.dm_movelaws.specs.Routed.{AreRouted, RoutedAlways, routed, with_put}
@@ -162,3 +200,10 @@ pub use Rattle.dm_movelaws.specs.Stages.{Calling, Lacking, Mark, Reached, Stayin
 pub use Rattle.dm_movelaws.specs.Stales.{StalesAlways, calls, is_about, stales}
 pub use Rattle.dm_movelaws.specs.Trail.{AddressesLead, ByForward, ByHolder, ByOwn, ByRequest, ByUpdate, IsLast, IsLed, IsNamed, Reaches, TrailStands, TrailsStand, ends_walk, has_it}
 pub use Rattle.dm_movelaws.specs.Updates.{Updated, UpdatesAlways, is_owner, listings}
+pub use Rattle.dm_movelaws.specs.Settles.Laws.{EndsAtRest, EndsQuiet, EndsRested, EndsResting, FewPuts, LeftFalls, PairsRestAlways, RestsAlways, SettlesAlways, TurnsFall, TurnsLeftFew}
+pub use Rattle.dm_movelaws.specs.Settles.Left.{IsLess, Left, Messages, Numbers, Packets, Releases, left, lets_go, load_left, numbers_left, one_each, one_let_go, pair_left, told_lets_go, turns_left, weight, weight_of, weight_to, wire_left}
+pub use Rattle.dm_movelaws.specs.Settles.Passes.{AreGoneThrough, IsRestStep, IsSettleStep, RestGoes, SettleGoes, ends_rested, ends_settled, is_at_rest, is_rest_directive, is_settle_directive, passes_left}
+pub use Rattle.dm_movelaws.specs.Settles.Puts.{OnlyLight, SettlesBy, is_light, is_light_kind, says_put}
+pub use Rattle.dm_movelaws.specs.Settles.Rests.{HasCome, HasPacket, PairRests}
+pub use Rattle.dm_movelaws.specs.Settles.Stays.{BringsNothing, RestLasts, SaysNothing, StaysAtRest, StaysSo, delivery_brings, packet_brings}
+pub use Rattle.dm_movelaws.specs.Settles.Still.{EndsStill, StandsStill, StillAlways, does_wait, is_mover, is_still, is_wait}

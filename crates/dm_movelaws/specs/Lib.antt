@@ -21,3 +21,4 @@ pub mod Stales
 pub mod LifeLines
 pub mod ServerLines
 pub mod Predecessors
+pub mod Settles

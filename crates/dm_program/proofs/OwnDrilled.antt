@@ -25,9 +25,9 @@ use Rattle.dm_rule.specs.Point.{Point}
 use Rattle.dm_mirror.specs.Run.{IsGood, joined}
 use Rattle.dm_mirror.specs.Todo.{IsDirective}
 use Rattle.dm_check.specs.Judge.{Open}
-use Rattle.dm_checklaws.proofs.Runs.{beginnings_open}
-use Rattle.dm_checklaws.specs.Laws.{HasHome}
-use Rattle.dm_checklaws.specs.Verdict.{verdict}
+use Rattle.dm_runlaws.proofs.Traces.Runs.{beginnings_open}
+use Rattle.dm_runlaws.specs.Traces.Laws.{HasHome}
+use Rattle.dm_runlaws.specs.Traces.Verdict.{verdict}
 use Rattle.dm_drill.proofs.Back.{schedules_are_read}
 use Rattle.dm_drill.specs.Counts.{totals_of}
 use Rattle.dm_drill.specs.Drilled.{DrillIsWhole, DrillWears, text_shown}

@@ -3,7 +3,6 @@ pub mod Fits
 pub mod Begun
 mod Restarted
 pub mod Finals
-pub mod Full
 pub mod Settling
 pub mod Stands
 pub mod Decisions

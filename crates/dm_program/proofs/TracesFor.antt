@@ -9,11 +9,11 @@ use Rattle.dm_mirror.specs.Ran.{ones}
 use Rattle.dm_mirror.specs.Todo.{IsDirective}
 use Rattle.dm_check.specs.Judge.{can_hold}
 use Rattle.dm_program.specs.Laws.{TracesAreFor}
-use Rattle.dm_checklaws.proofs.Going.{both_first}
-use Rattle.dm_checklaws.proofs.Going.{both_second}
-use Rattle.dm_checklaws.proofs.Going.{is_below}
-use Rattle.dm_checklaws.proofs.Going.{differ}
-use Rattle.dm_checklaws.proofs.Going.{held_fits}
+use Rattle.dm_runlaws.proofs.Traces.Going.{both_first}
+use Rattle.dm_runlaws.proofs.Traces.Going.{both_second}
+use Rattle.dm_runlaws.proofs.Traces.Going.{is_below}
+use Rattle.dm_runlaws.proofs.Traces.Going.{differ}
+use Rattle.dm_runlaws.proofs.Traces.Going.{held_fits}
 
 all_fit : (n : ℕ) (es : List Step) → All (λ e. can_hold n e ≡ true) es → All (IsDirective n) (ones es)
 all_fit n [] h = All-nil (IsDirective n)

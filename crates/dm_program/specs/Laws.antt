@@ -13,8 +13,8 @@ use Rattle.dm_drill.specs.Totals.{Totals}
 use Rattle.dm_mirror.specs.Ran.{ones}
 use Rattle.dm_mirror.specs.Todo.{IsDirective}
 use Rattle.dm_check.specs.Judge.{Open}
-use Rattle.dm_checklaws.specs.Good.{IsTrace}
-use Rattle.dm_checklaws.specs.Verdict.{verdict}
+use Rattle.dm_runlaws.specs.Traces.Good.{IsTrace}
+use Rattle.dm_runlaws.specs.Traces.Verdict.{verdict}
 use Rattle.dm_ending.specs.declared.status.Status.{Status}
 use Rattle.dm_ending.specs.declared.status.Status.TheVariants.{Done, Worn}
 use Rattle.dm_words.specs.DrillWords.{IsWithin}

@@ -11,7 +11,7 @@ use Rattle.dm_drill.specs.Totals.{Totals}
 use Rattle.dm_mirror.specs.Todo.{IsDirective}
 use Rattle.dm_onekernel.specs.Boot.{IsValid}
 use Rattle.dm_check.specs.Judge.{Open}
-use Rattle.dm_checklaws.specs.Verdict.{verdict}
+use Rattle.dm_runlaws.specs.Traces.Verdict.{verdict}
 use Rattle.dm_ending.specs.declared.status.Status.TheVariants.{Done, Worn}
 use Rattle.dm_words.specs.DrillWords.{OwnIsWithin}
 use Rattle.dm_commands.specs.Inputs.{AcceptsFiles, SaysBoot}

@@ -14,8 +14,8 @@ use Rattle.dm_rule.specs.Quiet.{IsQuiet}
 use Rattle.dm_rule.specs.Rest.{IsAtRest}
 use Rattle.dm_rule.specs.Worn as rule
 use Rattle.dm_movelaws.specs.AtRest.{AllForgotten}
-use Rattle.dm_settlelaws.specs.Passes.{AreGoneThrough, ends_rested, ends_settled, is_at_rest}
-use Rattle.dm_settlelaws.specs.Still.{is_still}
+use Rattle.dm_movelaws.specs.Settles.Passes.{AreGoneThrough, ends_rested, ends_settled, is_at_rest}
+use Rattle.dm_movelaws.specs.Settles.Still.{is_still}
 use Rattle.dm_world.specs.Meets.{world_state}
 use Rattle.dm_mirror.specs.Run.{IsGood}
 use Rattle.dm_mirror.specs.Stands.{Stands}

@@ -1,12 +1,15 @@
 //! What is shown by running alone: the program as it is, tried by dm_trials, with the tables of runs and rows and the files that they
-//! name in data/. Then what errors of a trace say of themselves.
+//! name in data/. Then what errors of a trace say of themselves, and last a system that is stepped from outside (docs/EMBEDDING.md).
 #![tactic(auto)]
+
+mod embedding;
 
 use anyhow::Result;
 use dm_check::{CheckError, TraceFault};
 use dm_outside::{MemSink, Shelf, Sink};
 use dm_program::finish;
 use dm_trials::{Program, say_numbered, try_parts, try_program, try_servers};
+use embedding::step_system;
 use std::alloc::Global;
 use std::io;
 use std::process::ExitCode;
@@ -38,7 +41,8 @@ fn main(rt: HostRuntime) -> Result<()> {
     try_program(&rt, &Demosmp)?;
     try_parts(&rt)?;
     say_trace_faults(&rt)?;
-    Ok(try_servers(&rt)?)
+    try_servers(&rt)?;
+    step_system(&rt)
 }
 
 /// What each fault of a line of a trace says of itself.

@@ -12,3 +12,6 @@ pub mod Packets
 pub mod SettleFew
 pub mod Leading
 pub mod Away
+pub mod Traces
+pub mod Letters
+pub mod Choices

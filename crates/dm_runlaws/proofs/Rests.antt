@@ -5,7 +5,7 @@ use Rattle.dm_runlaws.proofs.Names.{Pass, Two, Todo, Next, begin_pass, below, pa
 use Rattle.dm_line.specs.Todo.{Seen, at_rest}
 use Rattle.dm_rule.specs.Good.{seen_at}
 use Rattle.dm_rule.proofs.RestTests.{passes_rest}
-use Rattle.dm_settlelaws.proofs.RestHas.{rests_always}
+use Rattle.dm_movelaws.proofs.Settles.RestHas.{rests_always}
 use Rattle.dm_runlaws.proofs.Delivers.{fewer_wait}
 use Rattle.dm_runlaws.proofs.Runs.{From, Stood, between, first_on, follows, goes, same, waits_on}
 use Rattle.dm_runlaws.proofs.Settles.{Rest, goes_behind, none_if}

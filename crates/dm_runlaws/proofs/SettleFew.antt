@@ -5,7 +5,7 @@ use Rattle.dm_runlaws.proofs.Names.{Leads, Spelled, Point, first_point, has_mail
 use Rattle.dm_runlaws.proofs.Names.{IsSettleStep, SettlesBy, says_put, or_is, pass_stays, settles_is, unless_is, few_puts, settles_always, SettleFew, SettlesFromStart, puts_in, settle_begun}
 use Rattle.dm_line.specs.Todo.{Seen, at_rest, following}
 use Rattle.dm_rule.specs.Good.{seen_at}
-use Rattle.dm_settlelaws.proofs.RestHas.{none_if}
+use Rattle.dm_movelaws.proofs.Settles.RestHas.{none_if}
 
 -- a group takes a directive, or stays in a pass
 begun_same : (machines : ℕ) (seen : Seen) (p : Pass) (ds : List Directive) (n : Next) → begin_pass machines seen p ds ≡ Some n → n.left.directives ≡ ds

@@ -4,7 +4,7 @@ use Rattle.dm_runlaws.proofs.Names.{Todo, next_pass, or, IsKept, next_step, unde
 use Rattle.dm_runlaws.proofs.Names.{IsLess, Left, left, IsSettleStep, left_falls, Falls, by_left, settles_always}
 use Rattle.dm_rule.specs.Good.{seen_at}
 use Rattle.dm_runlaws.proofs.Runs.{From, Stood, between, follows, goes, same, same_by}
-pub use Rattle.dm_settlelaws.proofs.RestHas.{none_if}
+pub use Rattle.dm_movelaws.proofs.Settles.RestHas.{none_if}
 
 -- a settle, wherever it stands, with these directives behind it
 record IsSettle (b : Boot) (ds : List Directive) (t : Todo) : Type 0 where

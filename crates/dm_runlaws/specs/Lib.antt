@@ -4,3 +4,6 @@ pub mod Packets
 pub mod Settling
 pub mod Leading
 pub mod Away
+pub mod Traces
+pub mod Letters
+pub mod Choices

@@ -16,9 +16,9 @@ use Rattle.dm_rule.specs.Point.{Point, first_point}
 use Rattle.dm_rule.specs.Quiet.{IsQuiet}
 use Rattle.dm_mirror.specs.Todo.{IsDirective}
 use Rattle.dm_movelaws.specs.Ends.{count}
-use Rattle.dm_settlelaws.specs.Left.{one_each, weight_of}
-use Rattle.dm_settlelaws.specs.Passes.{SettleGoes}
-use Rattle.dm_settlelaws.specs.Puts.{OnlyLight, says_put}
+use Rattle.dm_movelaws.specs.Settles.Left.{one_each, weight_of}
+use Rattle.dm_movelaws.specs.Settles.Passes.{SettleGoes}
+use Rattle.dm_movelaws.specs.Settles.Puts.{OnlyLight, says_put}
 
 -- how many messages groups route
 abbrev pub puts_in : List (List Line) → ℕ

@@ -30,12 +30,14 @@ pub use Rattle.dm_kernel.proofs.Names.{All-head, All-tail, Block, Chunk, Forward
 pub use Rattle.dm_rulelaws.proofs.Decided.{shorter_begins}
 pub use Rattle.dm_rulelaws.proofs.Names.{IsRun}
 pub use Rattle.dm_movelaws.proofs.Names.{EndLine, Standing, act_of, block_line, joined_below, home_with, list_line, memory_lines, or, trimmed}
-pub use Rattle.dm_settlelaws.proofs.Falls.TurnsFall.{turns_fall}
-pub use Rattle.dm_settlelaws.proofs.FewSteps.Few.{turns_left_few}
-pub use Rattle.dm_settlelaws.proofs.Names.{IsKept, IsSettleStep, Settle, Two, at_rest_always, ends_settled, group_after, is_at_rest, stands_once_always, sum_below, turns_left}
-pub use Rattle.dm_settlelaws.proofs.Rests.EndsAtRest.{ends_at_rest}
-pub use Rattle.dm_settlelaws.proofs.Rests.EndsQuiet.{ends_quiet}
-pub use Rattle.dm_settlelaws.specs.Passes.{turns_in}
+pub use Rattle.dm_movelaws.proofs.Settles.Falls.TurnsFall.{turns_fall}
+pub use Rattle.dm_movelaws.proofs.Settles.FewSteps.Few.{turns_left_few}
+pub use Rattle.dm_movelaws.proofs.Names.{IsKept, IsSettleStep, Settle, Two, ends_settled, is_at_rest, stands_once_always, sum_below, turns_left}
+pub use Rattle.dm_movelaws.proofs.At.Always.{at_rest_always}
+pub use Rattle.dm_movelaws.proofs.After.{group_after}
+pub use Rattle.dm_movelaws.proofs.Settles.Rests.EndsAtRest.{ends_at_rest}
+pub use Rattle.dm_movelaws.proofs.Settles.Rests.EndsQuiet.{ends_quiet}
+pub use Rattle.dm_movelaws.specs.Settles.Passes.{turns_in}
 pub use Rattle.dm_text.proofs.Names.{EndFits, LineFits, text}
 pub use Rattle.dm_text.specs.Fits.{HidesNothing}
 unfoldable pub use Rattle.dm_text.specs.Text.{text_of_ends, text_of_lines}

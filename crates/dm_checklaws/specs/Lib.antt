@@ -1,6 +1,0 @@
-pub mod Verdict
-pub mod Good
-pub mod Laws
-pub mod First
-pub mod Before
-pub mod DueStands

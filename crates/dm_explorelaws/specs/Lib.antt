@@ -1,4 +1,0 @@
-pub mod Chosen
-pub mod Laws
-pub mod RuleSight
-pub mod ByRule

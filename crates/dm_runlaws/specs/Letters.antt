@@ -1,0 +1,3 @@
+-- What a look into a run says of messages, by file.
+pub mod Letters
+pub mod Laws

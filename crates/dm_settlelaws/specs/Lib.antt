@@ -1,7 +1,0 @@
-pub mod Left
-pub mod Rests
-pub mod Passes
-pub mod Puts
-pub mod Laws
-pub mod Still
-pub mod Stays

@@ -1,7 +1,0 @@
-pub mod Further
-pub mod Changes
-pub mod Calls
-pub mod Servers
-pub mod Runs
-pub mod Printed
-pub mod Worked

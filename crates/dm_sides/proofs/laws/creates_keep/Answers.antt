@@ -1,5 +1,0 @@
-use Rattle.dm_sides.proofs.Printed.{creates_keep}
-use Rattle.dm_sides.proofs.laws.creates_keep.Goals as goal
-
-pub returns : goal.returns
-returns c = creates_keep

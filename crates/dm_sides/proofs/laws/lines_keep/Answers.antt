@@ -1,5 +1,0 @@
-use Rattle.dm_sides.proofs.Printed.{lines_keep}
-use Rattle.dm_sides.proofs.laws.lines_keep.Goals as goal
-
-pub returns : goal.returns
-returns c = lines_keep
