@@ -9,7 +9,7 @@ import glob, os, re, sys
 
 TOP = os.path.normpath(os.path.join(os.path.dirname(os.path.abspath(__file__)), ".."))
 # what a page speaks of that is no more, or is another project's
-GONE = {"docs/GATE.md": {"dm_drawing"}}
+GONE = {"docs/GATE.md": {"dm_drawing", "dm_settlelaws", "dm_sides", "dm_checklaws", "dm_looklaws", "dm_explorelaws"}}
 FOLDERS = "crates|docs|examples|outside|measure|viewer"
 NUMBERS = "none one two three four five six seven eight nine ten eleven twelve thirteen fourteen fifteen sixteen".split()
 
