@@ -1,11 +1,12 @@
 #!/usr/bin/env python3
 """Measures a gate from nothing: what each crate costs, its proof and its wrong bodies, in seconds of processor time.
 
-    taskset -c 0,1 python3 measure/gate.py FILE
+    RT_JOBS=4 python3 measure/gate.py FILE
 
-At the top of the checkout, with nothing beside it. It runs `rt ci --anew` on the processors that it is given, writes what
-that says to FILE, and looks at its processes in /proc, twice a second. At the end it prints the table, the whole in
-processor minutes and minutes by the clock, and the last line of the run; its status is the run's.
+At the top of the checkout, with nothing beside it. RT_JOBS is how many processors there are: each proof has one job then, and as
+many are done at once. It runs `rt ci --anew` on the processors that it is given, writes what that says to FILE, and looks at its
+processes in /proc, twice a second. At the end it prints the table, the whole in processor minutes and minutes by the clock, and
+the last line of the run; its status is the run's.
 """
 
 import os
@@ -32,6 +33,9 @@ def seen_now(session):
             with open(f"/proc/{number}/cmdline", "rb") as file:
                 words = file.read().decode(errors="replace").split("\0")
             seconds = (int(fields[11]) + int(fields[12])) / TICKS
+            if not any(words):
+                # It is ending, and its words have gone before it: what the last look saw of it stays.
+                continue
             found[number, fields[19]] = os.readlink(f"/proc/{number}/cwd"), words, seconds
         except OSError:
             # It has ended meanwhile.
