@@ -7,7 +7,7 @@ pub use Rattle.std.proofs.lemmas.Result.{on_ok_weaker}
 pub use Rattle.std.specs.Result.{IsErrAnd}
 pub use Rattle.std.specs.Vec.{with_items}
 pub use Rattle.dm_migrate.specs.Rooms.{has_room_for}
-pub use Rattle.dm_wire.proofs.Names.{leb_tells}
+pub use Rattle.dm_wire.proofs.Names.{Sent, leb_tells}
 pub use Rattle.dm_stream.proofs.Names.{Ack, Data, Load, Receiving, Sending, append-nil, due, given_count, moved_up, next, outstanding, slice_get_within, window}
 pub use Rattle.dm_stream.specs.Receiving.{after_arrival, after_next, arrival, fresh_receiving}
 pub use Rattle.dm_stream.specs.Sending.{fresh_sending, numbered, with_acked, with_given, with_sent}
@@ -45,6 +45,7 @@ pub use Rattle.dm_node.specs.Lawful.{ActsLawfully, IsLawfulOut}
 pub use Rattle.dm_node.specs.May.{MayAct, MayArrive, MayArrivePacket, MayAskMove, MayCallOff, MayTurn}
 pub use Rattle.dm_node.specs.Meets.{Answers, AnswersSome, Gave, GaveActs, HasStreams, OrNoMemory, node_state, receiver_at, sender_at}
 pub use Rattle.dm_node.specs.Out.{Acted, Acts, Goes, Worn, behind, then_}
+pub use Rattle.dm_node.specs.Wired.{AreReadBack, Spoke, Spoken, packet_line, says, so_far, spoken, spoken_then, with_packet}
 pub use Rattle.dm_node.specs.State.{NodeState, here, node_opened, with_message, with_receiver, with_sender}
 pub use Rattle.dm_node.specs.declared.node.Node.{Node}
 pub use Rattle.dm_node.specs.declared.out.Out.{Out}

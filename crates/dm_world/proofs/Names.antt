@@ -37,13 +37,13 @@ pub use Rattle.dm_kernel.proofs.Names.{Global, IsLawfulNamed, IsSome, IsValid, M
 pub use Rattle.dm_node.proofs.Here.{opened_here}
 pub use Rattle.dm_node.proofs.Names.{Ack, Acted, Acts, ActsLawfully, All, All-head, All-tail, AnswersSome, Bool, Boot, Data, Err, FreezesWhole, Gave, Goes, HasStreams, IsLawfulOut, IsLawfulState, Line, Link, List, Load, MayAct, MayArrive}
 pub use Rattle.dm_node.proofs.Names.{MayArrivePacket, MayAskMove, MayCallOff, MayTurn, Message, NodeState, None, Ok, Option, Packet, Pid, Result, Some, Worn, [], ap, append-nil, append_assoc, arith, arrives_packet, at_machine, eqb_tells}
-pub use Rattle.dm_node.proofs.Names.{false, get_or_from_slice_get, here, if◌then◌else◌, images_are_valid, inl, inr, leb_tells, length, node_opened, node_state, pid_eq, refl, slice_get, slice_get_within, subst, suc, sym, tick, true}
+pub use Rattle.dm_node.proofs.Names.{false, get_or_from_slice_get, here, if◌then◌else◌, images_are_valid, inl, inr, leb_tells, length, node_opened, node_state, on_ok_weaker, pid_eq, refl, slice_get, slice_get_within, subst, suc, sym, tick, true}
 pub use Rattle.dm_node.proofs.Names.{with_items, with_items_is, zero, ℕ, ⊤, ◌*◌, ◌++◌, ◌+◌, ◌-◌, ◌<◌, ◌==◌, ◌∙◌, ◌∷◌, ◌≡◌, ◌≢◌, ◌≤◌}
 pub use Rattle.dm_node.proofs.Sends.{arrives_lawfully, asks_lawfully, calls_off_lawfully, ticks_lawfully, turns_lawfully}
 pub use Rattle.dm_node.specs.Acts.{asks_move, calls_off, turn}
 pub use Rattle.dm_node.specs.Lawful.{IsFrom}
-pub use Rattle.dm_node.specs.Meets.{GaveSome, IfWorn, IsWornSome}
-pub use Rattle.dm_node.specs.Wired.{Spoken, packet_line, spoken, with_packet}
+pub use Rattle.dm_node.specs.Meets.{GaveSome, IfWorn, IsWornSome, OrNoMemory}
+pub use Rattle.dm_node.specs.Wired.{Spoke, Spoken, packet_line, so_far, spoken, with_packet}
 pub use Rattle.dm_node.specs.declared.node.Node.{Node}
 pub use Rattle.dm_node.specs.declared.out.Out.{Out}
 pub use Rattle.dm_node.specs.declared.out.Out.TheVariants.{Sends}
@@ -59,7 +59,6 @@ pub use Rattle.dm_world.specs.Meets.{ActedAt, ActedSome, Answers, AreNodes, IsNo
 unfoldable pub use Rattle.dm_world.specs.Meets.{ended_in, node_in}
 pub use Rattle.dm_world.specs.Next.{all_heard, first_unseen, world_has_mail, world_is_quiet, world_next_step, world_seen, world_serves, world_undelivered}
 pub use Rattle.dm_world.specs.Readable.{AreReadBack, gave_bytes, gave_read, gave_some}
-pub use Rattle.dm_world.specs.Spoke.{Spoke}
 pub use Rattle.dm_world.specs.World.{Happened, Said, Says, WorldState, WornOut, acted, arrives, asks_at, delivers, keeps_over, over_in, reads, seat_of, turned, with_over, world_step}
 pub use Rattle.dm_world.specs.declared.cursor.Cursor.{Cursor}
 pub use Rattle.dm_world.specs.declared.cursor.Cursor.TheVariants.{One, Passing}
