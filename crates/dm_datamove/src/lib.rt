@@ -1,15 +1,16 @@
-//! Data moves, piece by piece: requests, their service where the area is, and their landing. None of it takes memory.
+//! Data moves, piece by piece: requests, their service where the area is, and their landing. Memory is taken for the bytes alone
+//! that a message carries.
 #![tactic(auto)]
 
-ghost use Rattle.std.specs.Prelude.{◌≡◌, ◌+◌, ◌≤◌, drop, length, take};
+ghost use Rattle.std.specs.Prelude.{◌≡◌, ◌+◌, ◌≤◌, IfOk, drop, length, take};
 ghost use Rattle.dm_datamove.specs.Requests.{address_of};
 
 mod landing;
 mod requests;
 mod serving;
 
-use arrayvec::ArrayVec;
 use dm_link::Addr;
+use dm_memory::NoMemory;
 use dm_message::{Body, Message};
 use dm_onekernel::Reply;
 use dm_process::{Direction, Process};
@@ -17,6 +18,7 @@ use dm_processor::{BLOCK, Cells, Memory};
 pub use landing::land;
 pub use requests::request;
 pub use serving::{answer, gone, serve};
+use std::alloc::Global;
 
 /// What is left of a data move: `left` bytes, 1 to 65,536, from `base` in the owner's memory and from `own` in the
 /// mover's.
@@ -50,15 +52,13 @@ pub fn address_of(process: &Process, here: u8) -> Addr
 }
 
 /// A copy of so many bytes at an address.
-pub fn body_at(memory: &Memory, base: u32, len: u32) -> Body
+pub fn body_at(alloc: Global, memory: &Memory, base: u32, len: u32) -> Result<Body, NoMemory>
     requires short { len ≤ BLOCK }
     requires within { base + len ≤ length memory.now }
-    ensures { result ≡ record { items = take len (drop base memory.now) } }
+    ensures { IfOk result (λ body. body ≡ record { items = take len (drop base memory.now) }) }
 {
     let mut bytes = [0; 256];
     let part = &mut bytes[..len as usize];
     memory.copy_out(base, part);
-    let mut body = ArrayVec::new();
-    body.try_extend_from_slice(part).unwrap();
-    body
+    Body::from_slice(alloc, part)
 }

@@ -1,5 +1,5 @@
 //! Requests for pieces of a data move.
-ghost use Rattle.std.specs.Prelude.{◌≡◌, ◌+◌, ◌≤◌, ◌<◌, Some, length};
+ghost use Rattle.std.specs.Prelude.{◌≡◌, ◌+◌, ◌≤◌, ◌<◌, IfOk, OnOk, Some, length};
 ghost use Rattle.dm_message.specs.Lawful.{IsLawfulMessage};
 ghost use Rattle.dm_message.specs.Plain.{plain_message};
 ghost use Rattle.dm_process.specs.Lawful.{IsLawfulProcess};
@@ -9,9 +9,11 @@ ghost use Rattle.dm_datamove.specs.Requests.{IsRest, moving, plain_requested, re
 
 use crate::{Rest, address_of, body_at};
 use dm_link::MACHINES;
+use dm_memory::NoMemory;
 use dm_message::{MOST_BODY, Message, MsgId, What};
 use dm_process::{Direction, Process, Status};
 use dm_processor::BLOCK;
+use std::alloc::Global;
 
 /// The length of the first piece of so many bytes.
 pub fn piece_of(left: u32) -> u32
@@ -23,29 +25,37 @@ pub fn piece_of(left: u32) -> u32
 }
 
 /// What is asked for.
-fn request_of(process: &Process, rest: Rest) -> What
+fn request_of(alloc: Global, process: &Process, rest: Rest) -> Result<What, NoMemory>
     requires { rest.own + rest.left ≤ length process.now.memory }
-    ensures { result ≡ request_of process.now rest.dir rest.base rest.own rest.left }
+    ensures { IfOk result (λ what. what ≡ request_of process.now rest.dir rest.base rest.own rest.left) }
 {
     let piece = piece_of(rest.left);
     match rest.dir {
-        Direction::FromArea => What::Read {
+        Direction::FromArea => Ok(What::Read {
             base: rest.base,
             len: piece as u16,
-        },
-        Direction::IntoArea => What::Write {
-            base: rest.base,
-            bytes: body_at(&process.memory, rest.own, piece),
-        },
+        }),
+        Direction::IntoArea => {
+            let bytes = body_at(alloc, &process.memory, rest.own, piece)?;
+            Ok(What::Write {
+                base: rest.base,
+                bytes,
+            })
+        }
     }
 }
 
 /// Sends the request for the first piece of what is left.
-pub fn send_request(process: &mut Process, rest: Rest, here: u8) -> Message
+pub fn send_request(
+    alloc: Global,
+    process: &mut Process,
+    rest: Rest,
+    here: u8,
+) -> Result<Message, NoMemory>
     requires own { rest.own + rest.left ≤ length process.old.memory }
     requires counts { process.old.sent < u32.MAX }
-    ensures message { result ≡ request here process.old rest }
-    ensures process { process.new ≡ moving process.old rest }
+    ensures message { IfOk result (λ message. message ≡ request here process.old rest) }
+    ensures process { OnOk result (process.new ≡ moving process.old rest) }
 {
     let n = process.sent;
     let Rest {
@@ -63,7 +73,7 @@ pub fn send_request(process: &mut Process, rest: Rest, here: u8) -> Message
         },
         to: owner,
         sender: address_of(process, here),
-        what: request_of(process, rest),
+        what: request_of(alloc, process, rest)?,
     };
     process.status = Status::Moving {
         dir,
@@ -74,22 +84,28 @@ pub fn send_request(process: &mut Process, rest: Rest, here: u8) -> Message
         pending: n,
     };
     process.sent += 1;
-    message
+    Ok(message)
 }
 
 /// Sends the request for the first piece of what is left of a move, from machine `here`; the mover waits for its answer
-/// then.
-pub fn request(process: &mut Process, rest: Rest, here: u8) -> Message
+/// then. Only the bytes that are to be written take memory.
+pub fn request(
+    alloc: Global,
+    process: &mut Process,
+    rest: Rest,
+    here: u8,
+) -> Result<Message, NoMemory>
     requires lawful { IsLawfulProcess process.old }
     requires here { here < MACHINES }
     requires rest { IsRest (length process.old.memory) rest }
     requires counts { process.old.sent < u32.MAX }
-    ensures message { result ≡ request here process.old rest }
-    ensures process { process.new ≡ moving process.old rest }
-    ensures plain { plain_requested (plain_message result) process.new ≡
-        Some (requests process.old.pid (plain_process process.old) rest.dir rest.owner.pid rest.base rest.own rest.left) }
-    ensures lawful { IsLawfulProcess process.new }
-    ensures lawful_message { IsLawfulMessage result }
+    ensures message { IfOk result (λ message. message ≡ request here process.old rest) }
+    ensures process { OnOk result (process.new ≡ moving process.old rest) }
+    ensures plain { IfOk result (λ message. plain_requested (plain_message message) process.new ≡
+        Some (requests process.old.pid (plain_process process.old) rest.dir rest.owner.pid rest.base rest.own rest.left)) }
+    ensures lawful { OnOk result (IsLawfulProcess process.new) }
+    ensures lawful_message { IfOk result IsLawfulMessage }
 {
-    send_request(process, rest, here)
+    let message = send_request(alloc, process, rest, here)?;
+    Ok(message)
 }

@@ -1,5 +1,5 @@
 //! The service of requests where the area is.
-ghost use Rattle.std.specs.Prelude.{◌≡◌, ◌<◌, Some, length};
+ghost use Rattle.std.specs.Prelude.{◌≡◌, ◌<◌, IfOk, OnOk, Some, length};
 ghost use Rattle.dm_message.specs.Lawful.{IsLawfulMessage, IsLawfulWhat};
 ghost use Rattle.dm_message.specs.Plain.{plain_message};
 ghost use Rattle.dm_process.specs.Lawful.{IsLawfulProcess};
@@ -7,9 +7,11 @@ ghost use Rattle.dm_datamove.specs.Serving.{IsRequest, IsWithin, after_serving, 
 
 use crate::body_at;
 use dm_link::{Addr, MACHINES};
+use dm_memory::NoMemory;
 use dm_message::{Message, MsgId, Outcome, What};
 use dm_process::Process;
 use dm_processor::Cells;
+use std::alloc::Global;
 
 /// An answer under the request's name to who asked, from its receiver on machine `here`, so often moved.
 pub fn answer(request: &Message, here: u8, moves: u32, what: What) -> Message
@@ -31,19 +33,20 @@ pub fn answer(request: &Message, here: u8, moves: u32, what: What) -> Message
 }
 
 /// Reads or writes what is asked for; what the answer says.
-fn serve_what(process: &mut Process, what: &What) -> What
+fn serve_what(alloc: Global, process: &mut Process, what: &What) -> Result<What, NoMemory>
     requires lawful { IsLawfulWhat what.now }
     requires within { IsWithin (length process.old.memory) what.now }
-    ensures answer { answer_of process.old what.now ≡ Some result }
-    ensures process { process.new ≡ after_serving process.old what.now }
+    ensures answer { IfOk result (λ said. answer_of process.old what.now ≡ Some said) }
+    ensures process { OnOk result (process.new ≡ after_serving process.old what.now) }
 {
     match what {
-        What::Read { base, len } => What::Block {
-            bytes: body_at(&process.memory, *base, u32::from(*len)),
+        What::Read { base, len } => {
+            let bytes = body_at(alloc, &process.memory, *base, u32::from(*len))?;
+            Ok(What::Block { bytes })
         },
         What::Write { base, bytes } => {
             process.memory.copy_in(*base, bytes.as_slice());
-            What::Written
+            Ok(What::Written)
         },
         // Only these two kinds ask for a piece: `within` says so.
         _ => unreachable!(),
@@ -51,30 +54,41 @@ fn serve_what(process: &mut Process, what: &What) -> What
 }
 
 /// Serves a request; the answer.
-fn serve_request(process: &mut Process, message: &Message, here: u8) -> Message
+fn serve_request(
+    alloc: Global,
+    process: &mut Process,
+    message: &Message,
+    here: u8,
+) -> Result<Message, NoMemory>
     requires lawful { IsLawfulWhat message.now.what }
     requires within { IsWithin (length process.old.memory) message.now.what }
-    ensures answer { serving_answer here process.old message.now ≡ Some result }
-    ensures process { process.new ≡ after_serving process.old message.now.what }
+    ensures answer { IfOk result (λ said. serving_answer here process.old message.now ≡ Some said) }
+    ensures process { OnOk result (process.new ≡ after_serving process.old message.now.what) }
 {
-    let what = serve_what(process, &message.what);
-    answer(message, here, process.moves, what)
+    let what = serve_what(alloc, process, &message.what)?;
+    Ok(answer(message, here, process.moves, what))
 }
 
 /// Serves a request for a piece that lies within the memory of its receiver, on machine `here`; a stopped process is
-/// served too.
-pub fn serve(process: &mut Process, message: &Message, here: u8) -> Message
+/// served too. Only the bytes that are read take memory.
+pub fn serve(
+    alloc: Global,
+    process: &mut Process,
+    message: &Message,
+    here: u8,
+) -> Result<Message, NoMemory>
     requires lawful { IsLawfulProcess process.old }
     requires lawful_request { IsLawfulMessage message.now }
     requires here { here < MACHINES }
     requires within { IsWithin (length process.old.memory) message.now.what }
-    ensures answer { serving_answer here process.old message.now ≡ Some result }
-    ensures process { process.new ≡ after_serving process.old message.now.what }
-    ensures plain { plain_served process.new (plain_message result) ≡ served_plainly process.old (plain_message message.now) }
-    ensures lawful { IsLawfulProcess process.new }
-    ensures lawful_answer { IsLawfulMessage result }
+    ensures answer { IfOk result (λ said. serving_answer here process.old message.now ≡ Some said) }
+    ensures process { OnOk result (process.new ≡ after_serving process.old message.now.what) }
+    ensures plain { IfOk result (λ said. plain_served process.new (plain_message said) ≡ served_plainly process.old (plain_message message.now)) }
+    ensures lawful { OnOk result (IsLawfulProcess process.new) }
+    ensures lawful_answer { IfOk result IsLawfulMessage }
 {
-    serve_request(process, message, here)
+    let answer = serve_request(alloc, process, message, here)?;
+    Ok(answer)
 }
 
 /// What is answered to a request whose receiver has ended.

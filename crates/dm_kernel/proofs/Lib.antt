@@ -5,6 +5,7 @@ pub mod Ringing
 pub mod Known
 pub mod Standing
 pub mod Rounds
+pub mod Idling
 pub mod Serving
 pub mod Receiving
 pub mod Making

@@ -90,6 +90,7 @@ pub use Rattle.dm_kernel.specs.Departing.{asked_to_move, freezes, freezing, give
 pub use Rattle.dm_kernel.specs.Following.{board_follows, forwards, forwards_and, manager_follows, process_follows}
 pub use Rattle.dm_kernel.specs.Handle.{answers_with, board_handles, board_took, ended_handles, handles, here_handles, kernel_handles, lands, lands_as, makes, makes_of, manager_handles, manager_took, next_pid, process_handles, routes, resident_handles}
 pub use Rattle.dm_kernel.specs.Handle.{told_board, told_manager}
+pub use Rattle.dm_kernel.specs.Idle.{AreIdle, KnowsIdle}
 pub use Rattle.dm_kernel.specs.Lawful.{AreLawful, IsLawfulArrival, IsLawfulAsker, IsLawfulDeparture, IsLawfulKnown, IsLawfulPart, IsLawfulRoom, IsLawfulState, IsLawfulTurned}
 pub use Rattle.dm_kernel.specs.May.{CanTellAll, FitsEnded, FitsBoard, FitsHere, FitsKernel, FitsKnown, FitsManager, FrontMay, IsSuch, MayAct, MayHandle, MayRestart, MayTurn, most, FitsResident, MayFreeze}
 pub use Rattle.dm_kernel.specs.Meets.{Answers, IsIn, Meets, MeetsSome, kernel_state}

@@ -13,5 +13,6 @@ pub mod May
 pub mod Served
 pub mod Carried
 pub mod Code
+pub mod Idle
 pub mod Meets
 pub mod Lawful

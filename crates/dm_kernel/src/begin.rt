@@ -3,6 +3,7 @@ ghost use Rattle.std.specs.Prelude.{◌≡◌, ◌<◌, ◌≤◌, ◌==◌, if�
 ghost use Rattle.dm_onekernel.specs.Boot.{IsValid, blocks_of_image, images_are_valid, slots_of};
 ghost use Rattle.dm_room.specs.Room.{HasRoom};
 ghost use Rattle.dm_kernel.specs.Begun.{bare, begins_process, empty, opened, with_servers};
+ghost use Rattle.dm_kernel.specs.Idle.{KnowsIdle};
 ghost use Rattle.dm_kernel.specs.Meets.{IsIn, kernel_state};
 
 use crate::kernel::Kernel;
@@ -23,12 +24,15 @@ impl Kernel {
     pub fn new(alloc: Global, boot: &Boot, here: u8) -> Result<Kernel, NoMemory>
         requires valid { IsValid boot.now }
         requires here { here < length boot.now.machines }
-        ensures { IfOk result (λ k. IsIn k (opened boot.now here)) }
+        ensures state { IfOk result (λ k. IsIn k (opened boot.now here)) }
+        ensures idle { IfOk result (λ k. KnowsIdle k) }
     {
         let mut kernel = Kernel::empty(alloc, boot, here)?;
         for process in boot.processes.as_slice() {
             kernel.begin(boot, process)?;
         }
+        // None of them was looked at yet.
+        kernel.idle = 0;
         Ok(kernel)
     }
 
@@ -54,6 +58,7 @@ impl Kernel {
             here,
             records: Records::new(alloc),
             ring: Queue::new(alloc),
+            idle: 0,
             inbox: Queue::new(alloc),
             made: 0,
             sent: 0,

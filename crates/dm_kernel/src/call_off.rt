@@ -1,9 +1,10 @@
 //! How a migration is called off where the process was to come.
 ghost use Rattle.dm_migrate.specs.Rooms.{HasTakenBy};
-ghost use Rattle.std.specs.Prelude.{◌≡◌, ◌<◌, ◌++◌, ◌∷◌, [], IfOk, length, map};
+ghost use Rattle.std.specs.Prelude.{◌≡◌, ◌<◌, ◌++◌, ◌∷◌, [], IfOk, OnOk, length, map};
 ghost use Rattle.dm_records.specs.Records.{at, incoming_of};
 ghost use Rattle.dm_migrate.specs.Arrival.{Arrival};
 ghost use Rattle.dm_kernel.specs.Coming.{calls_arriving_off, calls_off};
+ghost use Rattle.dm_kernel.specs.Idle.{KnowsIdle};
 ghost use Rattle.dm_kernel.specs.May.{IsSuch, MayCallOff};
 ghost use Rattle.dm_kernel.specs.Meets.{Answers, kernel_state};
 ghost use Rattle.dm_line.specs.declared.line.Line.TheVariants as line_;
@@ -23,12 +24,16 @@ impl Kernel {
     /// the machine that it was to leave, and that one's kernel is told. Answers what the machine says and routes, in order.
     pub fn call_off(&mut self, pid: Pid) -> Result<Vec<Part>, NoMemory>
         requires { MayCallOff (kernel_state self.old) pid }
-        ensures { Answers result self.new (calls_off (kernel_state self.old) pid) }
+        ensures answers { Answers result self.new (calls_off (kernel_state self.old) pid) }
+        ensures idle { OnOk result (KnowsIdle self.new) }
     {
-        match self.records.incoming(pid) {
+        let parts = match self.records.incoming(pid) {
             Some(_) => self.call_arriving_off(pid),
             None => self.say(Line::NoCall(pid)),
-        }
+        };
+        // Of what is known of a process nothing is said to stay.
+        self.idle = 0;
+        parts
     }
 
     /// Calls off the migration of a process that is on its way here, if not all of it has come.

@@ -189,7 +189,7 @@ impl Kernel {
         ensures { Answers result self.new (bind (frozen_of (at self.old.records pid))
             (λ d. gives_piece (kernel_state self.old) message.now (chunk_of (name_of d.resident) (state_of d.resident) chunk))) }
     {
-        let piece = self.records.frozen(pid).unwrap().chunk(chunk);
+        let piece = self.records.frozen(pid).unwrap().chunk(chunk)?;
         self.give(message, piece)
     }
 
@@ -205,7 +205,7 @@ impl Kernel {
         ensures { Answers result self.new (bind (frozen_of (at self.old.records pid))
             (λ d. gives_piece (kernel_state self.old) message.now (block_of (name_of d.resident) (memory_of d.resident) block))) }
     {
-        let piece = self.records.frozen(pid).unwrap().block(block);
+        let piece = self.records.frozen(pid).unwrap().block(block)?;
         self.give(message, piece)
     }
 

@@ -20,6 +20,8 @@ pub struct Kernel {
     pub(crate) records: Records<Resident, Leaving, Arriving>,
     /// The processes that are here, in the order in which they are served.
     pub(crate) ring: Queue<Pid>,
+    /// How many processes at the ring's front are known to be none that can be served.
+    pub(crate) idle: usize,
     /// The messages that have come and wait to be handled.
     pub(crate) inbox: Queue<Parcel<Message>>,
     /// How many processes were made here.

@@ -73,7 +73,9 @@ impl Kernel {
                 bytes,
             } => self.take_chunk(message, *pid, *chunk, *last, bytes.as_slice()),
             What::PullBlock { pid, block } => self.give_block(message, *pid, *block),
-            What::Memory { pid, block, bytes } => { self.take_block(message, *pid, *block, bytes) }
+            What::Memory { pid, block, bytes } => {
+                self.take_block(message, *pid, *block, bytes.get())
+            }
             What::AllTaken { pid } => self.let_go(*pid),
             What::Restart { pid } => self.restart(boot, *pid),
             What::CallOff { pid } => self.stay_behind(message, *pid),

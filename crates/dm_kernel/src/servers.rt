@@ -48,10 +48,10 @@ impl Kernel {
         ensures { Answers result self.new (bind (board_in (at self.old.records message.now.to.pid))
             (λ v. board_took (kernel_state self.old) message.now v (takes self.old.here v message.now.what))) }
     {
-        let here = self.here;
+        let (alloc, here) = (self.alloc, self.here);
         let took = board_mut(&mut self.records, message.to.pid)
             .unwrap()
-            .take(message, here)?;
+            .take(alloc, message, here)?;
         self.took(message.id, took.answer)
     }
 
@@ -77,10 +77,10 @@ impl Kernel {
         ensures { Answers result self.new (bind (manager_in (at self.old.records message.now.to.pid))
             (λ v. manager_took (kernel_state self.old) message.now v (manage.takes self.old.here v message.now.id.n message.now.what))) }
     {
-        let here = self.here;
+        let (alloc, here) = (self.alloc, self.here);
         let sent = manager_mut(&mut self.records, message.to.pid)
             .unwrap()
-            .take(message, here)?;
+            .take(alloc, message, here)?;
         self.took(message.id, sent)
     }
 

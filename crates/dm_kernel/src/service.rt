@@ -69,7 +69,8 @@ impl Kernel {
     {
         let here = self.here;
         let process = process_mut(&mut self.records, message.to.pid).unwrap();
-        let answer = Parcel::new(self.alloc, serve(process, message, here))?;
+        let answer = serve(self.alloc, process, message, here)?;
+        let answer = Parcel::new(self.alloc, answer)?;
         self.serve_and_route(message.id, answer)
     }
 
@@ -83,7 +84,7 @@ impl Kernel {
     {
         let here = self.here;
         let process = process_mut(&mut self.records, message.to.pid).unwrap();
-        match land(process, message, here) {
+        match land(self.alloc, process, message, here)? {
             Landed::Next(request) => {
                 let request = Parcel::new(self.alloc, request)?;
                 self.serve_and_route(message.id, request)

@@ -7,6 +7,7 @@ ghost use Rattle.dm_onekernel.specs.Boot.{images_are_valid};
 ghost use Rattle.dm_onekernel.specs.Options.{bind};
 ghost use Rattle.dm_process.specs.Service.{IsServiceOf};
 ghost use Rattle.dm_kernel.specs.Carried.{FreezesWhole};
+ghost use Rattle.dm_kernel.specs.Idle.{AreIdle, KnowsIdle};
 ghost use Rattle.dm_kernel.specs.May.{CanTellAll, MayAct, MayTurn};
 ghost use Rattle.dm_kernel.specs.Meets.{Answers, kernel_state};
 ghost use Rattle.dm_kernel.specs.Served.{IsHere};
@@ -28,13 +29,20 @@ impl Kernel {
     pub fn turn(&mut self, boot: &Boot) -> Result<Vec<Part>, NoMemory>
         requires may { MayTurn boot.now (kernel_state self.old) }
         requires images { images_are_valid boot.now.images ≡ true }
+        requires idle { KnowsIdle self.old }
         ensures answers { Answers result self.new (turn boot.now (kernel_state self.old)) }
         // Where it froze a process or a server, that can be carried whole.
         ensures whole { OnOk result (FreezesWhole (kernel_state self.old) self.old.inbox) }
+        ensures idle { OnOk result (KnowsIdle self.new) }
     {
         self.over = None;
         match self.inbox.pop() {
-            Some(message) => self.handle(boot, message),
+            Some(message) => {
+                let parts = self.handle(boot, message);
+                // Any process may be one now that can be served.
+                self.idle = 0;
+                parts
+            }
             None => self.go_round(boot),
         }
     }
@@ -44,26 +52,36 @@ impl Kernel {
         requires here { self.old.here < MACHINES }
         requires sent { CanTellAll (kernel_state self.old) }
         requires processes { (p : _) (x : _) → at self.old.records p ≡ Some (Here (resident.Process x)) → MayAct (kernel_state self.old) p x }
-        ensures { Answers result self.new (goes_round boot.now (kernel_state self.old) (first_runnable (at self.old.records) self.old.ring)) }
+        requires idle { KnowsIdle self.old }
+        ensures answers { Answers result self.new (goes_round boot.now (kernel_state self.old) (first_runnable (at self.old.records) self.old.ring)) }
+        ensures idle { OnOk result (KnowsIdle self.new) }
     {
         match self.first_service() {
             Some((place, service)) => {
                 let pid = *self.ring.at(place);
                 move_back(&mut self.ring, place);
-                self.serve(pid, service, boot.quantum)
+                let parts = self.serve(pid, service, boot.quantum);
+                // Serving it changed none of those before it.
+                self.idle = place;
+                parts
             }
-            None => self.say(Line::Idle(self.here)),
+            None => {
+                self.idle = self.ring.len();
+                self.say(Line::Idle(self.here))
+            }
         }
     }
 
     /// The place in the ring of the first process that can be served, and what it does then.
     fn first_service(&mut self) -> Option<(usize, Service)>
+        requires idle { KnowsIdle self.old }
         ensures unchanged { kernel_state self.new ≡ kernel_state self.old }
         ensures within { IfSome result (λ s. s.0 < length self.new.ring) }
         ensures first { bind result (λ s. slice_get self.new.ring s.0) ≡ first_runnable (at self.new.records) self.new.ring }
+        ensures before { IfSome result (λ s. AreIdle (at self.new.records) self.new.ring s.0) }
         ensures service { IfSome result (λ s. IfSome (slice_get self.new.ring s.0) (λ p. IsHere (λ x. IsServiceOf x s.1) (at self.new.records p))) }
     {
-        for place in 0..self.ring.len() {
+        for place in self.idle..self.ring.len() {
             let pid = *self.ring.at(place);
             if let Some(service) = self.service_of(pid) {
                 return Some((place, service));

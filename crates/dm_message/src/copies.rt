@@ -1,24 +1,16 @@
-//! Equal messages. Making one takes no memory.
-ghost use Rattle.std.specs.Prelude.{◌≡◌};
+//! Equal messages.
+ghost use Rattle.std.specs.Prelude.{◌≡◌, IfOk};
 
 use crate::{Message, What};
-use arrayvec::ArrayVec;
-
-/// The same elements.
-fn copied<T: Copy + Default + Drop, const N: usize>(items: &ArrayVec<T, N>) -> ArrayVec<T, N>
-    ensures { result ≡ items.now }
-{
-    let mut copy = ArrayVec::new();
-    let _ = copy.try_extend_from_slice(items);
-    copy
-}
+use dm_memory::{NoMemory, Parcel};
+use std::alloc::Global;
 
 impl What {
     /// The same.
-    pub fn copied(&self) -> What
-        ensures { result ≡ self.now }
+    pub fn copied(&self, alloc: Global) -> Result<What, NoMemory>
+        ensures { IfOk result (λ what. what ≡ self.now) }
     {
-        match self {
+        let what = match self {
             What::User {
                 code,
                 channel,
@@ -27,19 +19,19 @@ impl What {
             } => What::User {
                 code: *code,
                 channel: *channel,
-                body: copied(body),
-                links: copied(links),
+                body: body.copied(alloc)?,
+                links: links.copied(alloc)?,
             },
             What::Write { base, bytes } => What::Write {
                 base: *base,
-                bytes: copied(bytes),
+                bytes: bytes.copied(alloc)?,
             },
             What::Block { bytes } => What::Block {
-                bytes: copied(bytes),
+                bytes: bytes.copied(alloc)?,
             },
             What::Create { image, links } => What::Create {
                 image: *image,
-                links: copied(links),
+                links: links.copied(alloc)?,
             },
             What::State {
                 pid,
@@ -50,12 +42,12 @@ impl What {
                 pid: *pid,
                 chunk: *chunk,
                 last: *last,
-                bytes: copied(bytes),
+                bytes: bytes.copied(alloc)?,
             },
             What::Memory { pid, block, bytes } => What::Memory {
                 pid: *pid,
                 block: *block,
-                bytes: *bytes,
+                bytes: Parcel::new(alloc, *bytes.get())?,
             },
             What::Ask {
                 pid,
@@ -106,20 +98,21 @@ impl What {
             What::Written => What::Written,
             What::Gone => What::Gone,
             What::NoRoom => What::NoRoom,
-        }
+        };
+        Ok(what)
     }
 }
 
 impl Message {
     /// The same.
-    pub fn copied(&self) -> Message
-        ensures { result ≡ self.now }
+    pub fn copied(&self, alloc: Global) -> Result<Message, NoMemory>
+        ensures { IfOk result (λ message. message ≡ self.now) }
     {
-        Message {
+        Ok(Message {
             id: self.id,
             to: self.to,
             sender: self.sender,
-            what: self.what.copied(),
-        }
+            what: self.what.copied(alloc)?,
+        })
     }
 }

@@ -12,8 +12,9 @@ ghost use Rattle.dm_message.specs.Plain.{plain_message, plain_what};
 mod copies;
 pub mod kind;
 
-use arrayvec::ArrayVec;
 use dm_link::{Addr, Link, Pid, Placeless};
+use dm_lists::Bounded;
+use dm_memory::Parcel;
 pub use kind::MessageKind;
 
 /// The name of a message: who sent it, how many that sender had sent before, and whether it is a kernel's answer to
@@ -35,10 +36,10 @@ pub const MOST_LINKS: usize = 4;
 pub const CHUNK: usize = 512;
 
 /// The bytes of a message.
-pub type Body = ArrayVec<u8, MOST_BODY>;
+pub type Body = Bounded<u8, MOST_BODY>;
 
 /// The links that a user message encloses.
-pub type Enclosed = ArrayVec<Link, MOST_LINKS>;
+pub type Enclosed = Bounded<Link, MOST_LINKS>;
 
 /// A message, with the addresses of its receiver and its sender.
 #[derive(Drop)]
@@ -88,7 +89,7 @@ pub enum What {
     /// A process is to be made of an image, with up to 3 links; the answers.
     Create {
         image: u16,
-        links: ArrayVec<Link, 3>,
+        links: Bounded<Link, 3>,
     },
     Created {
         pid: Pid,
@@ -125,7 +126,7 @@ pub enum What {
         pid: Pid,
         chunk: u32,
         last: bool,
-        bytes: ArrayVec<u8, CHUNK>,
+        bytes: Bounded<u8, CHUNK>,
     },
     PullBlock {
         pid: Pid,
@@ -134,7 +135,7 @@ pub enum What {
     Memory {
         pid: Pid,
         block: u8,
-        bytes: [u8; 256],
+        bytes: Parcel<[u8; 256]>,
     },
     /// All has come; the process may go on there.
     AllTaken {

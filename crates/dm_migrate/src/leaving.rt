@@ -11,10 +11,9 @@ ghost use Rattle.dm_resident.specs.Residents.{memory_of, moves_of, name_of, queu
 ghost use Rattle.dm_migrate.specs.Departure.{CanMove, IsNamed, all_sent_on, ask_of, frozen, sent_on, with_held};
 ghost use Rattle.dm_migrate.specs.Pieces.{HasBlock, HasChunk, block_of, chunk_bytes, chunk_of};
 
-use arrayvec::ArrayVec;
 use dm_link::Placeless;
-use dm_lists::Queue;
-use dm_memory::{NoMemory, push_or_return};
+use dm_lists::{Bounded, Queue};
+use dm_memory::{NoMemory, Parcel, push_or_return};
 use dm_message::{Asker, CHUNK, Message, What};
 use dm_process::Process;
 use dm_resident::Resident;
@@ -115,31 +114,31 @@ impl Leaving {
     }
 
     /// The chunk of this number of its state bytes.
-    pub fn chunk(&self, k: u32) -> What
+    pub fn chunk(&self, k: u32) -> Result<What, NoMemory>
         requires { HasChunk (state_of self.now.resident) k }
-        ensures piece { result ≡ chunk_of (name_of self.now.resident) (state_of self.now.resident) k }
-        ensures lawful { IsLawfulWhat result }
+        ensures piece { IfOk result (λ what. what ≡ chunk_of (name_of self.now.resident) (state_of self.now.resident) k) }
+        ensures lawful { IfOk result IsLawfulWhat }
     {
-        What::State {
+        Ok(What::State {
             pid: self.resident.pid(),
             chunk: k,
             last: self.state.len() <= CHUNK * (k as usize + 1),
-            bytes: chunk_at(&self.state, k as usize),
-        }
+            bytes: Bounded::from_slice(self.alloc, chunk_at(&self.state, k as usize))?,
+        })
     }
 
     /// The block of this number of its memory.
-    pub fn block(&self, k: u8) -> What
+    pub fn block(&self, k: u8) -> Result<What, NoMemory>
         requires { HasBlock (memory_of self.now.resident) k }
-        ensures piece { result ≡ block_of (name_of self.now.resident) (memory_of self.now.resident) k }
-        ensures lawful { IsLawfulWhat result }
+        ensures piece { IfOk result (λ what. what ≡ block_of (name_of self.now.resident) (memory_of self.now.resident) k) }
+        ensures lawful { IfOk result IsLawfulWhat }
     {
         let process = self.resident.process().unwrap();
-        What::Memory {
+        Ok(What::Memory {
             pid: process.pid,
             block: k,
-            bytes: *process.memory.block(k),
-        }
+            bytes: Parcel::new(self.alloc, *process.memory.block(k))?,
+        })
     }
 
     /// Keeps a message that came for it, or hands it back.
@@ -187,14 +186,13 @@ impl Leaving {
 }
 
 /// The bytes of a chunk of state bytes.
-fn chunk_at(state: &[u8], k: usize) -> ArrayVec<u8, CHUNK>
+fn chunk_at(state: &[u8], k: usize) -> &[u8]
     requires { HasChunk state.now k }
-    ensures { result.items ≡ chunk_bytes state.now k }
+    ensures bytes { result.now ≡ chunk_bytes state.now k }
+    ensures few { length result.now ≤ CHUNK }
 {
     let rest = &state[CHUNK * k..];
-    let mut bytes = ArrayVec::new();
-    let _ = bytes.try_extend_from_slice(&rest[..CHUNK.min(rest.len())]);
-    bytes
+    &rest[..CHUNK.min(rest.len())]
 }
 
 /// An empty vector with room for all that goes on: the queue, and what was held.

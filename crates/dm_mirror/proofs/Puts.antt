@@ -1,11 +1,9 @@
 -- A packet goes on the wire of a pair: the world has it, and so have the lines.
 use Rattle.dm_mirror.proofs.Names.{◌≡◌, ◌≢◌, ℕ, ◌+◌, ◌≤◌, ◌==◌, ◌&&◌, Bool, false, List, [], ◌∷◌, ◌++◌, length, refl, ap, ◌∙◌, sym, subst, if◌then◌else◌, Some, eqb-true, eq-eqb, length-map, Message, Sending, Stream, spelling, arith}
-use Rattle.dm_mirror.proofs.Names.{nat_tests, Boot, NodeState, Out, Sends, Spoken, spoken, says, with_packet, Line, at_machine, at_pair, Load, Spot, standing, About, Pair, View, after_packet, begins, pair_keeps, MsgId, Spelled, lines_of}
+use Rattle.dm_mirror.proofs.Names.{nat_tests, Boot, NodeState, with_packet, Line, at_machine, at_pair, Load, Spot, standing, About, Pair, View, after_packet, begins, pair_keeps, MsgId, Spelled, lines_of}
 use Rattle.dm_mirror.proofs.Names.{spelled, Point, after, two_of, Placed, WorldState, History, NodeStands, PairStands, StandsWith, load_of, stream_of, packet_of_load, behind}
 use Rattle.dm_rule.proofs.Names.{Part}
 use Rattle.dm_wire.specs.Wire.{after_put}
-use Rattle.dm_node.specs.declared.out.Out.TheVariants.{Says}
-use Rattle.dm_node.specs.Wired.{packet_line}
 use Rattle.dm_stream.specs.Packets as stream
 use Rattle.dm_wire.specs.Sent as wire
 use Rattle.dm_mirror.proofs.Streams.{Joined, pair_stands, pair_stays, with_back, with_bytes, with_line, apart_is, at_here, at_other, mirrors_same, node_same, nodes_are, pair_here, pair_other, pairs_are, tokens_same}
@@ -14,15 +12,6 @@ use Rattle.dm_mirror.proofs.Kernel.Sets.{left_off as both_false}
 -- the parts of a group, one after the other
 pub spelled_on : (pt next : Point) (p : Part) (ls : List Line) (ps : List Part) (w : Spelled) → lines_of pt p ≡ Some ls → after pt ls ≡ Some next → spelled next ps ≡ Some w → spelled pt (p ∷ ps) ≡ Some (behind ls w)
 spelled_on pt next p ls ps w lines comes rest = search
-
--- what is given to the outside, one after the other
-abbrev pub spoken_then : Spoken → List Out → Spoken
-spoken_then s outs = record { lines = s.lines ++ (spoken s.wires outs).lines; wires = (spoken s.wires outs).wires }
-
-pub spoken-append : (wires : ℕ → ℕ → List wire.Sent) (xs ys : List Out) → spoken wires (xs ++ ys) ≡ spoken_then (spoken wires xs) ys
-spoken-append wires [] ys = refl
-spoken-append wires (Says l ∷ xs) ys = ap (says l) (spoken-append wires xs ys)
-spoken-append wires (Sends p ∷ xs) ys = ap (says (packet_line wires p)) (spoken-append (with_packet wires p) xs ys)
 
 -- the wire with a packet of this load
 pub wires_put : (wires : ℕ → ℕ → List wire.Sent) (a c : ℕ) (l : stream.Load Message) (x y : ℕ) → with_packet wires (packet_of_load a c l) x y ≡ after_put wires a c (spelling (packet_of_load a c l)) x y

@@ -6,7 +6,8 @@ use Rattle.dm_mirror.proofs.Names.{StandsWith, stream_of, GoesOn, packet_of_load
 use Rattle.dm_rule.proofs.Names.{Part}
 use Rattle.std.proofs.lemmas.List.{append_assoc}
 use Rattle.dm_mirror.proofs.Streams.{joined, put_back, went_again, at_same, node_same}
-use Rattle.dm_mirror.proofs.Puts.{ids_same, spelled_on, spoken-append, stands_begins, stands_put, wire_length, same_senders}
+use Rattle.dm_node.proofs.Speaking.{spoken-append}
+use Rattle.dm_mirror.proofs.Puts.{ids_same, spelled_on, stands_begins, stands_put, wire_length, same_senders}
 use Rattle.dm_mirror.proofs.Deliver.Moves.{given_at as get_there}
 use Rattle.dm_mirror.proofs.QuietSaid.{not_same as apart_of}
 use Rattle.dm_stream.specs.Order as order

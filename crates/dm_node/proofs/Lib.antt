@@ -1,4 +1,5 @@
 pub mod Names
+pub mod Speaking
 pub mod States
 pub mod Parts
 pub mod Arrivals

@@ -7,7 +7,7 @@ pub use Rattle.std.proofs.lemmas.Result.{on_ok_weaker}
 pub use Rattle.std.specs.Result.{IsErrAnd}
 pub use Rattle.std.specs.Vec.{with_items}
 pub use Rattle.dm_migrate.specs.Rooms.{has_room_for}
-pub use Rattle.dm_wire.proofs.Names.{leb_tells}
+pub use Rattle.dm_wire.proofs.Names.{Sent, leb_tells}
 pub use Rattle.dm_stream.proofs.Names.{Ack, Data, Load, Receiving, Sending, append-nil, due, given_count, moved_up, next, outstanding, slice_get_within, window}
 pub use Rattle.dm_stream.specs.Receiving.{after_arrival, after_next, arrival, fresh_receiving}
 pub use Rattle.dm_stream.specs.Sending.{fresh_sending, numbered, with_acked, with_given, with_sent}
@@ -16,7 +16,7 @@ pub use Rattle.dm_stream.specs.declared.receiver.Arrived.TheVariants.{Early, Old
 pub use Rattle.dm_packet.proofs.Names.{IsRoute, get_or_past}
 pub use Rattle.dm_packet.specs.declared.Packet.{Packet}
 pub use Rattle.dm_linkupdate.proofs.Names.{Some}
-pub use Rattle.dm_statebytes.proofs.Names.{OnOk, Result, append_assoc, err_from_is_err_and}
+pub use Rattle.dm_statebytes.proofs.Names.{OnOk, Result, append_assoc}
 pub use Rattle.dm_migrate.proofs.Names.{nat_lt, restarted}
 pub use Rattle.dm_switchboard.proofs.Imports.{None}
 pub use Rattle.dm_syscall.proofs.Names.{All-drop}
@@ -24,7 +24,7 @@ pub use Rattle.dm_line.proofs.Names.{eqb_tells, ◌≢◌}
 pub use Rattle.dm_line.specs.Sets.{at_machine}
 pub use Rattle.dm_kernel.proofs.LawfulTurns.{asked_lawful, called_off_lawful, turn_lawful}
 pub use Rattle.dm_kernel.proofs.Names.{All, All-append, All-cons, All-head, All-nil, All-push, All-tail, Arrival, Asker, Bool, Boot, BootImage, BootProcess, Called, Completed, Completion, Departure, Err, Forward, Frozen, Here}
-pub use Rattle.dm_kernel.proofs.Names.{Incoming, IsLawfulMessage, IsLawfulPart, IsLawfulState, IsLawfulTurned, IsMachine, KernelKnown, KernelState, Landed, Landing, Line, Link, List, MeetsSome, Message, MoveError, NoMemory, Ok, Option, Pid}
+pub use Rattle.dm_kernel.proofs.Names.{Incoming, IsLawfulMessage, IsLawfulPart, IsLawfulState, IsLawfulTurned, IsMachine, KernelKnown, KernelState, Landed, Landing, Line, Link, List, MeetsSome, Message, MoveError, Ok, Option, Pid}
 pub use Rattle.dm_kernel.proofs.Names.{Process, Status, Turned, What, [], accepts, after_serving, answers_with, ap, arith, asks_manager, asks_move, before_turn, begins_process, bind, block_of, board_handles, board_took, called_with, calls}
 pub use Rattle.dm_kernel.proofs.Names.{calls_arriving_off, calls_off, child_of, chunk_of, comes_from, completion, empty, ended_handles, false, first_on, first_runnable, forwards_and, frozen_of, gives_piece, goes_round, halts, handles}
 pub use Rattle.dm_kernel.proofs.Names.{hears_piece, here_handles, if◌then◌else◌, images_are_valid, incoming_of, inl, inr, into_iter_items, is_not_called, is_some, is_told_back, is_whole, kernel_handles, kind_of, landing, lands, lands_as}
@@ -34,6 +34,7 @@ pub use Rattle.dm_kernel.proofs.Names.{Board, Managing, Resident, bare, manager_
 pub use Rattle.dm_kernel.proofs.Names.{took_piece, true, turn, turns_back, with_all, with_child, with_here, with_machine, with_piece, zero, ℕ, ⊤, ◌*◌, ◌++◌, ◌+◌, ◌-◌, ◌<◌, ◌==◌, ◌∙◌, ◌∷◌, ◌≡◌, ◌≤◌}
 pub use Rattle.dm_kernel.specs.Carried.{FreezesWhole}
 pub use Rattle.dm_kernel.specs.Handle.{has_room}
+pub use Rattle.dm_kernel.specs.Idle.{KnowsIdle}
 pub use Rattle.dm_kernel.specs.declared.kernel.Kernel.{Kernel}
 pub use Rattle.dm_kernel.specs.declared.part.Part.{Part}
 pub use Rattle.dm_kernel.specs.declared.run.Halt.{Halt}
@@ -45,6 +46,7 @@ pub use Rattle.dm_node.specs.Lawful.{ActsLawfully, IsLawfulOut}
 pub use Rattle.dm_node.specs.May.{MayAct, MayArrive, MayArrivePacket, MayAskMove, MayCallOff, MayTurn}
 pub use Rattle.dm_node.specs.Meets.{Answers, AnswersSome, Gave, GaveActs, HasStreams, OrNoMemory, node_state, receiver_at, sender_at}
 pub use Rattle.dm_node.specs.Out.{Acted, Acts, Goes, Worn, behind, then_}
+pub use Rattle.dm_node.specs.Wired.{AreReadBack, Spoke, Spoken, packet_line, says, so_far, spoken, spoken_then, with_packet}
 pub use Rattle.dm_node.specs.State.{NodeState, here, node_opened, with_message, with_receiver, with_sender}
 pub use Rattle.dm_node.specs.declared.node.Node.{Node}
 pub use Rattle.dm_node.specs.declared.out.Out.{Out}

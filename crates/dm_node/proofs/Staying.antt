@@ -3,7 +3,7 @@ use Rattle.dm_node.proofs.Names.{◌≡◌, ℕ, zero, suc, ◌-◌, ◌<◌, Bo
 use Rattle.dm_node.proofs.Names.{IsLawfulMessage, Part, IsLawfulPart, Turned, Load, Data, Ack, Sending, due, window, with_acked, with_given, with_sent, Receiving, after_arrival, after_next, arrival, next, Arrived, Taken, Old, Early}
 use Rattle.dm_node.proofs.Names.{Out, NodeState, here, with_message, with_receiver, with_sender, Acted, Acts, Goes, Worn, behind, then_, acts, arrives, comes_in, gives, is_worn, lets_go, lets_next, none_waits, routes}
 use Rattle.dm_node.proofs.Names.{routes_away, routes_home, sends_due, takes_kept, takes_next, MayAct, MayArrive}
-use Rattle.dm_node.proofs.Names.{refl, Kernel, KernelState, Node, GaveActs, node_state}
+use Rattle.dm_node.proofs.Names.{refl, Kernel, KernelState, Node, GaveActs, Spoken, node_state}
 use Rattle.dm_kernel.specs.Meets as kernel
 use Rattle.dm_node.proofs.Here.{StaysAt}
 use Rattle.dm_node.proofs.Parts.{kernel_is}
@@ -83,7 +83,7 @@ routes_may n m l h =
     ]
 
 -- the machine of the code, once it has given this
-pub gave_may : (a : Acts) (after : Node) (old new : List Out) → GaveActs after old new a → MayAfter a → MayAct (node_state after)
+pub gave_may : (a : Acts) (after : Node) (old new : Spoken) → GaveActs after old new a → MayAfter a → MayAct (node_state after)
 gave_may (Goes a) after old new g h = subst MayAct (sym g.state) h
 gave_may (Worn x y) after old new g h = absurd g
 

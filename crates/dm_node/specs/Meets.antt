@@ -1,5 +1,5 @@
 -- The machine of the code, over the plain one.
-use Rattle.std.specs.Prelude.{◌≡◌, ⊤, ℕ, true, false, List, ◌++◌, length, slice_index_or}
+use Rattle.std.specs.Prelude.{◌≡◌, ⊤, ℕ, true, false, List, length, slice_index_or}
 use Rattle.std.specs.declared.option.Option.{Option}
 use Rattle.std.specs.declared.option.Option.TheVariants.{None, Some}
 use Rattle.std.specs.declared.result.Result.{Result}
@@ -7,14 +7,15 @@ use Rattle.std.specs.declared.result.Result.TheVariants.{Ok, Err}
 use Rattle.dm_message.specs.declared.Message.{Message}
 use Rattle.dm_stream.specs.Sending.{Sending, fresh_sending, with_given}
 use Rattle.dm_stream.specs.Receiving.{Receiving, fresh_receiving}
+use Rattle.dm_kernel.specs.Idle.{KnowsIdle}
 use Rattle.dm_kernel.specs.Meets as kernel
 use Rattle.dm_node.specs.declared.node.Node.{Node}
 use Rattle.dm_node.specs.declared.stop.Stop.{Stop}
 use Rattle.dm_node.specs.declared.stop.Stop.TheVariants as stop
 use Rattle.dm_node.specs.State.{NodeState, here, with_sender}
-use Rattle.dm_node.specs.declared.out.Out.{Out}
 use Rattle.dm_node.specs.Out.{Acted, Acts, Goes, Worn}
 use Rattle.dm_node.specs.Acts.{is_worn}
+use Rattle.dm_node.specs.Wired.{Spoken, Spoke}
 
 -- the streams with machine b
 abbrev pub sender_at : List (Sending Message) → ℕ → Sending Message
@@ -34,10 +35,11 @@ node_state n =
       receivers = receiver_at n.receivers.items;
     }
 
--- there is a stream to and from each of sixteen machines
+-- there is a stream to and from each of sixteen machines; and what the kernel remembers of its ring is so
 pub record HasStreams (n : Node) : Type 0 where
   pub senders : length n.senders.items ≡ 16
   pub receivers : length n.receivers.items ≡ 16
+  pub idle : KnowsIdle n.kernel
 
 -- a machine's stream has one more message
 pub record GaveTo (new : Node) (n : NodeState) (b : ℕ) (m : Message) : Type 0 where
@@ -56,13 +58,13 @@ Gives (Ok done) new n b m = GaveTo new n b m
 Gives (Err (stop.Worn from to)) new n b m = IsWornTo from to n b
 Gives (Err (stop.NoMemory e)) new n b m = ⊤
 
--- the code gives these at the end of what there was, or has no memory
-pub record Gave (n : Node) (old new : List Out) (a : Acted) : Type 0 where
+-- the code says these behind what was said, or has no memory
+pub record Gave (n : Node) (old new : Spoken) (a : Acted) : Type 0 where
   pub state : node_state n ≡ a.state
   pub streams : HasStreams n
-  pub outs : new ≡ old ++ a.outs
+  pub outs : Spoke old new a.outs
 
-abbrev pub GaveActs : Node → List Out → List Out → Acts → Type 0
+abbrev pub GaveActs : Node → Spoken → Spoken → Acts → Type 0
 GaveActs n old new (Goes a) = Gave n old new a
 GaveActs n old new (Worn from to) = ⊥
 
@@ -70,12 +72,12 @@ abbrev pub IsWorn : ℕ → ℕ → Acts → Type 0
 IsWorn from to (Goes a) = ⊥
 IsWorn from to (Worn x y) = (from ≡ x) × (to ≡ y)
 
-abbrev pub Answers : Result Unit Stop → Node → List Out → List Out → Acts → Type 0
+abbrev pub Answers : Result Unit Stop → Node → Spoken → Spoken → Acts → Type 0
 Answers (Ok done) n old new a = GaveActs n old new a
 Answers (Err (stop.Worn from to)) n old new a = IsWorn from to a
 Answers (Err (stop.NoMemory e)) n old new a = ⊤
 
-abbrev pub GaveSome : Node → List Out → List Out → Option Acts → Type 0
+abbrev pub GaveSome : Node → Spoken → Spoken → Option Acts → Type 0
 GaveSome n old new None = ⊥
 GaveSome n old new (Some a) = GaveActs n old new a
 
@@ -83,7 +85,7 @@ abbrev pub IsWornSome : ℕ → ℕ → Option Acts → Type 0
 IsWornSome from to None = ⊥
 IsWornSome from to (Some a) = IsWorn from to a
 
-abbrev pub AnswersSome : Result Unit Stop → Node → List Out → List Out → Option Acts → Type 0
+abbrev pub AnswersSome : Result Unit Stop → Node → Spoken → Spoken → Option Acts → Type 0
 AnswersSome (Ok done) n old new a = GaveSome n old new a
 AnswersSome (Err (stop.Worn from to)) n old new a = IsWornSome from to a
 AnswersSome (Err (stop.NoMemory e)) n old new a = ⊤

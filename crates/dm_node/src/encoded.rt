@@ -76,7 +76,7 @@ impl Encoded {
     }
 
     /// Puts it on the wire from its sender to its receiver; its line.
-    pub fn put(self, wires: &mut Wire) -> Result<Line, NoMemory>
+    pub(crate) fn put(self, wires: &mut Wire) -> Result<Line, NoMemory>
         ensures line { IfOk result (λ l. l ≡ packet_line (packets_on wires.old) self) }
         ensures wires { OnOk result ((x y : ℕ) → packets_on wires.new x y ≡ with_packet (packets_on wires.old) self x y) }
         // What it was written as is read again.

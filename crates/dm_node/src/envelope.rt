@@ -6,7 +6,7 @@ ghost use Rattle.dm_node.specs.Contents.{packet_in};
 
 use dm_memory::{NoMemory, Parcel};
 use dm_message::Message;
-use dm_packet::{Opened, numbered_at, opened_at, room};
+use dm_packet::{DecodeError, Opened, numbered_at, opened_at, room};
 use std::alloc::Global;
 use std::marker::Model;
 
@@ -79,6 +79,10 @@ fn numbered_in(alloc: Global, bytes: &[u8]) -> Result<(u32, Parcel<Message>), No
     ensures { IfOk result (λ x. read_numbered bytes.now ≡ Ok x) }
 {
     let mut message = Parcel::new(alloc, room())?;
-    let seq = numbered_at(bytes, message.get_mut()).unwrap();
-    Ok((seq, message))
+    match numbered_at(alloc, bytes, message.get_mut()) {
+        Ok(seq) => Ok((seq, message)),
+        Err(DecodeError::NoMemory(none)) => Err(none),
+        // The bytes spell a number and a message: `requires` says so.
+        Err(DecodeError::Bytes(_)) => unreachable!(),
+    }
 }

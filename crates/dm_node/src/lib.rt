@@ -1,5 +1,5 @@
 //! One machine: its kernel, and its streams with the other machines. An event is a turn, a tick or the arrival of a
-//! packet; it gives lines to print and packets for the machine's own wires.
+//! packet; its packets go on the machine's own wires, and its lines come behind those that were said.
 #![tactic(auto)]
 
 mod arrive;
@@ -12,6 +12,7 @@ pub mod node;
 pub mod out;
 mod read;
 mod route;
+mod speak;
 pub mod stop;
 mod streams;
 mod turn;

@@ -1,8 +1,8 @@
-//! What an event of a machine gives to the outside.
+//! What an event of a machine gives to the outside, as the clauses of the events have it.
 use crate::encoded::Encoded;
 use dm_line::line::Line;
 
-/// What an event of a machine gives to the outside.
+/// What an event of a machine gives to the outside. Clauses alone speak of it: a machine says and sends it at once.
 #[derive(Drop)]
 pub enum Out {
     /// A printed line.

@@ -1,36 +1,39 @@
 //! How a message is routed to the machine that its receiver's address names.
-ghost use Rattle.std.specs.Prelude.{◌≡◌, ◌<◌, ◌≤◌, ◌^◌, ◌++◌, ◌∷◌, ◌==◌, [], IfOk, OnOk, is_some};
+ghost use Rattle.std.specs.Prelude.{◌≡◌, ◌<◌, ◌≤◌, ◌^◌, ◌==◌, IfOk, List, OnOk, is_some};
 ghost use Rattle.dm_message.specs.Lawful.{IsLawfulMessage};
 ghost use Rattle.dm_packet.specs.Lawful.{IsRoute};
-ghost use Rattle.dm_stream.specs.Sending.{due, given_count, with_given, with_sent};
-ghost use Rattle.dm_node.specs.Acts.{gives, put_line, routes, routes_away, routes_home, sends_due};
+ghost use Rattle.dm_stream.specs.Sending.{due};
+ghost use Rattle.dm_wire.specs.Sent.{Sent};
+ghost use Rattle.dm_node.specs.Acts.{put_line, routes, routes_away, routes_home, sends_due};
 ghost use Rattle.dm_node.specs.May.{MayAct};
 ghost use Rattle.dm_node.specs.Meets.{Answers, Gave, HasStreams, node_state};
-ghost use Rattle.dm_node.specs.Out.{Goes};
+ghost use Rattle.dm_node.specs.Wired.{so_far};
 
 use crate::node::Node;
-use crate::out::Out;
+use crate::speak::{say, send};
 use crate::stop::Stop;
 use dm_line::line::Line;
 use dm_memory::{NoMemory, Parcel};
 use dm_message::Message;
+use dm_wire::Wire;
 
 impl Node {
     /// Routes a message to the machine that its receiver's address names.
     pub(crate) fn route(
         &mut self,
         message: Parcel<Message>,
-        outs: &mut Vec<Out>,
+        wires: &mut Wire,
+        lines: &mut Vec<Line>,
     ) -> Result<(), Stop>
         requires may { MayAct (node_state self.old) }
         requires streams { HasStreams self.old }
         requires lawful { IsLawfulMessage message }
-        ensures { Answers result self.new outs.old.items outs.new.items (routes (node_state self.old) message) }
+        ensures { Answers result self.new (so_far wires.old lines.old.items) (so_far wires.new lines.new.items) (routes (node_state self.old) message) }
     {
         if message.get().to.at == self.kernel.here() {
-            self.route_home(message, outs)
+            self.route_home(message, lines)
         } else {
-            self.route_away(message, outs)
+            self.route_away(message, wires, lines)
         }
     }
 
@@ -48,11 +51,12 @@ impl Node {
     }
 
     /// Routes a message to this machine itself: it comes into the inbox.
-    fn route_home(&mut self, message: Parcel<Message>, outs: &mut Vec<Out>) -> Result<(), Stop>
+    fn route_home(&mut self, message: Parcel<Message>, lines: &mut Vec<Line>) -> Result<(), Stop>
         requires streams { HasStreams self.old }
         requires home { self.old.home ≤ self.old.numbers }
         requires numbers { self.old.numbers < 2 ^ 32 }
-        ensures { Answers result self.new outs.old.items outs.new.items (routes_home (node_state self.old) message (self.old.home == self.old.numbers)) }
+        ensures { (wires : List (List Sent)) → Answers result self.new (so_far wires lines.old.items) (so_far wires lines.new.items)
+            (routes_home (node_state self.old) message (self.old.home == self.old.numbers)) }
     {
         let here = self.kernel.here();
         if self.home == self.numbers {
@@ -61,7 +65,7 @@ impl Node {
                 to: here,
             });
         }
-        push(outs, Out::Says(self.put_line(message.get())))?;
+        say(lines, self.put_line(message.get()))?;
         if let Err(e) = self.kernel.enters(message) {
             return Err(Stop::NoMemory(e));
         }
@@ -70,12 +74,17 @@ impl Node {
     }
 
     /// Routes a message to another machine: it goes out at once where none waits before it, and the window isn't full.
-    fn route_away(&mut self, message: Parcel<Message>, outs: &mut Vec<Out>) -> Result<(), Stop>
+    fn route_away(
+        &mut self,
+        message: Parcel<Message>,
+        wires: &mut Wire,
+        lines: &mut Vec<Line>,
+    ) -> Result<(), Stop>
         requires may { MayAct (node_state self.old) }
         requires streams { HasStreams self.old }
         requires lawful { IsLawfulMessage message }
         requires route { IsRoute self.old.kernel.here message.to.at }
-        ensures { Answers result self.new outs.old.items outs.new.items
+        ensures { Answers result self.new (so_far wires.old lines.old.items) (so_far wires.new lines.new.items)
             (routes_away (node_state self.old) message.to.at message ((node_state self.old).senders message.to.at)) }
     {
         let said = message.get();
@@ -83,35 +92,35 @@ impl Node {
         let put = self.put_line(said);
         let at_once = self.none_waits(to);
         self.give(to, message)?;
-        push(outs, Out::Says(put))?;
+        say(lines, put)?;
         if at_once {
-            self.send_due(to, outs)?;
+            self.send_due(to, wires, lines)?;
         }
         Ok(())
     }
 
     /// Sends the packet that is due to machine `to`, if there is one; whether there was.
-    pub(crate) fn send_due(&mut self, to: u8, outs: &mut Vec<Out>) -> Result<bool, NoMemory>
+    pub(crate) fn send_due(
+        &mut self,
+        to: u8,
+        wires: &mut Wire,
+        lines: &mut Vec<Line>,
+    ) -> Result<bool, NoMemory>
         requires may { MayAct (node_state self.old) }
         requires streams { HasStreams self.old }
         requires route { IsRoute self.old.kernel.here to }
-        ensures gave { OnOk result (Gave self.new outs.old.items outs.new.items (sends_due (node_state self.old) to (due ((node_state self.old).senders to)))) }
+        ensures gave { OnOk result (Gave self.new (so_far wires.old lines.old.items) (so_far wires.new lines.new.items)
+            (sends_due (node_state self.old) to (due ((node_state self.old).senders to)))) }
         ensures was { IfOk result (λ sent. sent ≡ is_some (due ((node_state self.old).senders to))) }
     {
-        match self.due(to)? {
+        let due = self.due(to)?;
+        match due {
             Some(packet) => {
-                push(outs, Out::Sends(packet))?;
+                send(packet, wires, lines)?;
                 self.sent_due(to);
                 Ok(true)
             }
             None => Ok(false),
         }
     }
-}
-
-/// Puts one more at the end.
-pub(crate) fn push(outs: &mut Vec<Out>, out: Out) -> Result<(), NoMemory>
-    ensures ok { OnOk result (outs.new.items ≡ outs.old.items ++ out ∷ []) }
-{
-    dm_memory::push(outs, out)
 }

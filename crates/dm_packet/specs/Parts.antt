@@ -6,6 +6,8 @@ use Rattle.dm_link.specs.declared.Addr.{Addr}
 use Rattle.dm_message.specs.declared.Message.{Message}
 use Rattle.dm_message.specs.declared.What.{What}
 use Rattle.dm_message.specs.declared.What.TheVariants.{Stop}
+use Rattle.dm_packet.specs.declared.DecodeError.{DecodeError}
+use Rattle.dm_packet.specs.declared.DecodeError.TheVariants.{Bytes, NoMemory}
 use Rattle.dm_packet.specs.declared.PacketError.{PacketError}
 use Rattle.dm_packet.specs.declared.PacketError.TheVariants as bad
 use Rattle.dm_packet.specs.declared.Packet.{Packet}
@@ -16,10 +18,11 @@ use Rattle.dm_packet.specs.declared.front.PacketKind.{PacketKind}
 use Rattle.dm_packet.specs.Field.{◌>>=◌}
 use Rattle.dm_packet.specs.Packets.{numbered_message, only_packet, read_rest}
 
--- it is what reading gives: what the message carries and the bytes behind it, or the rule that is broken
-abbrev pub ReadsInto : Result (Bor (List ℕ)) PacketError → What → Result (What × List ℕ) PacketError → Type 0
+-- it is what reading gives: what the message carries and the bytes behind it, or the rule that is broken, unless memory lacks
+abbrev pub ReadsInto : Result (Bor (List ℕ)) DecodeError → What → Result (What × List ℕ) PacketError → Type 0
 ReadsInto (Ok rest) what read = read ≡ Ok (what, rest.now)
-ReadsInto (Err e) what read = read ≡ Err e
+ReadsInto (Err (Bytes rule)) what read = read ≡ Err rule
+ReadsInto (Err (NoMemory none)) what read = Unit {0}
 
 -- nobody's address
 abbrev pub nobody : Addr
@@ -37,10 +40,11 @@ only x = if length x.1 == 0 then Ok x.0 else Err bad.Trailing
 abbrev pub read_numbered : List ℕ → Result (ℕ × Message) PacketError
 read_numbered bytes = numbered_message.read bytes >>= only
 
--- it is what reading gives: the number and the message, or the rule that is broken
-abbrev pub ReadsNumbered : Result ℕ PacketError → Message → Result (ℕ × Message) PacketError → Type 0
+-- it is what reading gives: the number and the message, or the rule that is broken, unless memory lacks
+abbrev pub ReadsNumbered : Result ℕ DecodeError → Message → Result (ℕ × Message) PacketError → Type 0
 ReadsNumbered (Ok n) m read = read ≡ Ok (n, m)
-ReadsNumbered (Err e) m read = read ≡ Err e
+ReadsNumbered (Err (Bytes rule)) m read = read ≡ Err rule
+ReadsNumbered (Err (NoMemory none)) m read = Unit {0}
 
 -- the packet from one machine to another that these bytes are, behind its front
 abbrev pub data_behind : ℕ → ℕ → List ℕ → Result Packet PacketError

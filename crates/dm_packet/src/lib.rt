@@ -3,6 +3,8 @@
 
 ghost use Rattle.std.specs.Prelude.{◌≡◌, ◌++◌, ◌≤◌, IfOk, Ok, OnErr, OnOk, length};
 ghost use Rattle.dm_message.specs.Lawful.{IsLawfulMessage};
+ghost use Rattle.dm_packet.specs.declared.DecodeError.TheVariants as unread;
+ghost use Rattle.dm_packet.specs.Decodes.{Gives, IsDecoded};
 ghost use Rattle.dm_packet.specs.Lawful.{IsLawfulPacket, IsRoute};
 ghost use Rattle.dm_packet.specs.Packets.{packet_of, spelling};
 ghost use Rattle.dm_packet.specs.Rules.{number_of_rule};
@@ -17,6 +19,7 @@ use dm_memory::extend_from_slice;
 use dm_message::Message;
 pub use front::Opened;
 pub use reading::{numbered_at, opened_at, room};
+use std::alloc::Global;
 use thiserror::Error;
 use writing::{Buffer, ack_bytes, put_data};
 
@@ -90,20 +93,48 @@ impl PacketError {
     }
 }
 
-/// The packet that the bytes spell, all of them, or the first rule from the left that they break. It takes no memory.
-pub fn decode(bytes: &[u8]) -> Result<Packet, PacketError>
+/// Why no packet is read.
+#[derive(Clone, Copy, Debug, Error)]
+pub enum DecodeError {
+    /// The bytes are none: the first rule that they break, from the left.
+    #[error("{0}")]
+    Bytes(PacketError),
+    #[error("no memory")]
+    NoMemory(NoMemory),
+}
+
+impl From<PacketError> for DecodeError {
+    ghost from_gives = { λ bad e. e ≡ unread.Bytes bad };
+
+    fn from(bad: PacketError) -> DecodeError {
+        DecodeError::Bytes(bad)
+    }
+}
+
+impl From<NoMemory> for DecodeError {
+    ghost from_gives = { λ none e. e ≡ unread.NoMemory none };
+
+    fn from(none: NoMemory) -> DecodeError {
+        DecodeError::NoMemory(none)
+    }
+}
+
+/// The packet that the bytes spell, all of them, or the first rule from the left that they break. It takes memory for the bytes
+/// and the links of its message alone.
+pub fn decode(alloc: Global, bytes: &[u8]) -> Result<Packet, DecodeError>
     // Which packet, and which rule.
-    ensures exact { result ≡ packet_of bytes.now }
+    ensures exact { IsDecoded result (packet_of bytes.now) }
     // What is read is lawful, its numbers fit their fields, and it is spelled so and in no other way.
     ensures found { IfOk result (λ p. IsLawfulPacket p × FitsPacket p × (bytes.now ≡ spelling p)) }
-    // What is spelled so is read, where its numbers fit their fields, as those of a packet that stands in memory do.
-    ensures only { (p : Packet) → IsLawfulPacket p → FitsPacket p → bytes.now ≡ spelling p → result ≡ Ok p }
+    // What is spelled so is read, unless memory lacks, where its numbers fit their fields, as those of a packet that stands in
+    // memory do.
+    ensures only { (p : Packet) → IsLawfulPacket p → FitsPacket p → bytes.now ≡ spelling p → Gives result p }
     ensures size { OnOk result (length bytes.now ≤ MOST_PACKET) }
 {
     match opened_at(bytes)? {
         Opened::Data { from, to, behind } => {
             let mut message = room();
-            let seq = numbered_at(behind, &mut message)?;
+            let seq = numbered_at(alloc, behind, &mut message)?;
             Ok(Packet::Data {
                 from,
                 to,

@@ -1,5 +1,6 @@
 pub mod Names
 pub mod Waiting
+pub mod Answering
 pub mod Following
 pub mod Hearing
 pub mod Plain

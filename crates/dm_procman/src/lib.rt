@@ -2,18 +2,19 @@
 //! as it is told (1983).
 #![tactic(auto)]
 
-ghost use Rattle.std.specs.Prelude.{◌≡◌, ◌+◌, ◌<◌, ◌≤◌, ◌^◌, false, IfOk, IfSome, IsSome, Ok, OnErr, Some, is_some, length};
+ghost use Rattle.std.specs.Prelude.{◌≡◌, ◌+◌, ◌<◌, ◌≤◌, ◌^◌, ◌++◌, ◌∷◌, [], false, if◌then◌else◌, IfOk, IfSome, IsSome, Ok, OnErr, OnOk, Some, is_some, length};
 ghost use Rattle.dm_link.specs.Lawful.{IsMachine};
 ghost use Rattle.dm_message.specs.Lawful.{IsLawfulMessage};
 ghost use Rattle.dm_message.specs.Plain.{plain_message};
 ghost use Rattle.dm_statebytes.specs.Servers.{Gives, IsUnpacked};
 ghost use Rattle.dm_onekernel.specs.Boot.{IsValid};
 ghost use Rattle.dm_procman.specs.Lawful.{IsLawfulManager};
-ghost use Rattle.dm_procman.specs.Managing.{Managing, behind_in, plain_manager, retargeted_manager, starting};
+ghost use Rattle.dm_procman.specs.Making.{control_link};
+ghost use Rattle.dm_procman.specs.Managing.{Managing, at_home, behind_in, plain_manager, retargeted_manager, starting};
 ghost use Rattle.dm_procman.specs.Moving.{asks_to_move, known_address};
 ghost use Rattle.dm_procman.specs.Packed.{IsSpelledManager, manager_of_bytes, manager_spelling};
 ghost use Rattle.dm_procman.specs.Plainly.{plain_taken, plainly_taken};
-ghost use Rattle.dm_procman.specs.Taking.{IsForManager, answers_over, takes, takes_created, takes_moved, takes_no_room, takes_user, pending_request};
+ghost use Rattle.dm_procman.specs.Taking.{IsForManager, answers_over, pending_request, settled, takes, takes_created, takes_moved, takes_no_room, takes_user};
 
 mod children;
 mod making;
@@ -148,7 +149,12 @@ impl ProcMan {
     }
 
     /// Takes a user message, or the answer to a pending request, on machine `here`; the message that it sends, if any.
-    pub fn take(&mut self, message: &Message, here: u8) -> Result<Option<Message>, NoMemory>
+    pub fn take(
+        &mut self,
+        alloc: Global,
+        message: &Message,
+        here: u8,
+    ) -> Result<Option<Message>, NoMemory>
         requires row { IsForManager self.old message.now.id.n message.now.what }
         requires counts { self.old.sent < u32.MAX }
         requires children { length self.old.children < u32.MAX }
@@ -159,11 +165,17 @@ impl ProcMan {
         ensures lawful { IsLawfulManager self.old → IsLawfulMessage message.now → IsLawfulManager self.new }
         ensures lawful_message { IsLawfulManager self.old → IsLawfulMessage message.now → IfOk result (λ sent. IfSome sent IsLawfulMessage) }
     {
-        self.take_what(here, message.id.n, &message.what)
+        self.take_what(alloc, here, message.id.n, &message.what)
     }
 
     /// Takes what a message says, by its number.
-    fn take_what(&mut self, here: u8, number: u32, what: &What) -> Result<Option<Message>, NoMemory>
+    fn take_what(
+        &mut self,
+        alloc: Global,
+        here: u8,
+        number: u32,
+        what: &What,
+    ) -> Result<Option<Message>, NoMemory>
         requires row { IsForManager self.old number what.now }
         requires counts { self.old.sent < u32.MAX }
         requires children { length self.old.children < u32.MAX }
@@ -176,10 +188,10 @@ impl ProcMan {
                 body,
                 links,
                 ..
-            } => self.take_user(here, *code, body.as_slice(), links.as_slice()),
-            What::Created { pid } => self.take_created(here, number, *pid),
-            What::NoRoom => Ok(self.take_no_room(here, number)),
-            What::Moved { outcome } => Ok(self.take_moved(here, number, *outcome)),
+            } => self.take_user(alloc, here, *code, body.as_slice(), links.as_slice()),
+            What::Created { pid } => self.take_created(alloc, here, number, *pid),
+            What::NoRoom => self.take_no_room(alloc, here, number),
+            What::Moved { outcome } => self.take_moved(alloc, here, number, *outcome),
             // No other kind is for the manager: `row` says so.
             _ => unreachable!(),
         }
@@ -188,6 +200,7 @@ impl ProcMan {
     /// Takes a user message that came over a link with this code.
     fn take_user(
         &mut self,
+        alloc: Global,
         here: u8,
         code: u32,
         body: &[u8],
@@ -199,14 +212,20 @@ impl ProcMan {
         ensures err { OnErr result (self.new ≡ self.old) }
     {
         if code == 0 {
-            self.request(here, body, links)
+            self.request(alloc, here, body, links)
         } else {
-            self.control(here, code, body, links)
+            self.control(alloc, here, code, body, links)
         }
     }
 
     /// Takes the news that the child of a pending request stands.
-    fn take_created(&mut self, here: u8, number: u32, pid: Pid) -> Result<Option<Message>, NoMemory>
+    fn take_created(
+        &mut self,
+        alloc: Global,
+        here: u8,
+        number: u32,
+        pid: Pid,
+    ) -> Result<Option<Message>, NoMemory>
         requires pending { IsSome (pending_request number self.old.pending) }
         requires counts { self.old.sent < u32.MAX }
         requires children { length self.old.children < u32.MAX }
@@ -214,52 +233,109 @@ impl ProcMan {
             Some (record { manager = self.new; message = sent })) }
         ensures err { OnErr result (self.new ≡ self.old) }
     {
-        let child = Addr {
-            pid,
-            at: pid.home,
-            moves: 0,
-        };
-        self.children.push(child)?;
-        let request = self.pending.take(number);
-        let control = control_link(here, self.moves, self.children.len() as u32);
-        Ok(self.answer_pending(here, request, 0, &[control]))
+        let request = self.request_numbered(number);
+        let control = self.next_control(here);
+        let answer = self.answer_to(alloc, here, request, 0, &[control])?;
+        self.add_child(pid)?;
+        self.settle(number, answer.is_some());
+        Ok(answer)
     }
 
     /// Takes the news that there was no room for the child of a pending request.
-    fn take_no_room(&mut self, here: u8, number: u32) -> Option<Message>
+    fn take_no_room(
+        &mut self,
+        alloc: Global,
+        here: u8,
+        number: u32,
+    ) -> Result<Option<Message>, NoMemory>
         requires pending { IsSome (pending_request number self.old.pending) }
         requires counts { self.old.sent < u32.MAX }
-        ensures { takes_no_room here self.old number (pending_request number self.old.pending) ≡ Some (record { manager = self.new; message = result }) }
+        ensures exact { IfOk result (λ sent. takes_no_room here self.old number (pending_request number self.old.pending) ≡
+            Some (record { manager = self.new; message = sent })) }
+        ensures err { OnErr result (self.new ≡ self.old) }
     {
-        let request = self.pending.take(number);
-        self.answer_pending(here, request, 1, &[])
+        let request = self.request_numbered(number);
+        let answer = self.answer_to(alloc, here, request, 1, &[])?;
+        self.settle(number, answer.is_some());
+        Ok(answer)
     }
 
     /// Takes the news of how the move of a pending request ended.
-    fn take_moved(&mut self, here: u8, number: u32, outcome: Outcome) -> Option<Message>
+    fn take_moved(
+        &mut self,
+        alloc: Global,
+        here: u8,
+        number: u32,
+        outcome: Outcome,
+    ) -> Result<Option<Message>, NoMemory>
         requires pending { IsSome (pending_request number self.old.pending) }
         requires counts { self.old.sent < u32.MAX }
-        ensures { takes_moved here self.old number outcome (pending_request number self.old.pending) ≡
-            Some (record { manager = self.new; message = result }) }
+        ensures exact { IfOk result (λ sent. takes_moved here self.old number outcome (pending_request number self.old.pending) ≡
+            Some (record { manager = self.new; message = sent })) }
+        ensures err { OnErr result (self.new ≡ self.old) }
     {
-        let request = self.pending.take(number);
-        self.answer_pending(here, request, outcome.code(), &[])
+        let request = self.request_numbered(number);
+        let answer = self.answer_to(alloc, here, request, outcome.code(), &[])?;
+        self.settle(number, answer.is_some());
+        Ok(answer)
     }
 
-    /// Answers a request that was pending with one byte and at most 4 links, over its link, if it has one.
-    fn answer_pending(
-        &mut self,
+    /// The request of this number that is pending.
+    fn request_numbered(&self, number: u32) -> Pending
+        requires { IsSome (pending_request number self.now.pending) }
+        ensures { pending_request number self.now.pending ≡ Some result }
+    {
+        self.pending.numbered(number)
+    }
+
+    /// The link by which the next child is controlled.
+    fn next_control(&self, here: u8) -> Link
+        requires { length self.now.children < u32.MAX }
+        ensures { result ≡ control_link here self.now.moves (length self.now.children + 1) }
+    {
+        control_link(here, self.moves, self.children.len() as u32 + 1)
+    }
+
+    /// Adds a child, which stands at its home.
+    fn add_child(&mut self, pid: Pid) -> Result<(), NoMemory>
+        ensures ok { OnOk result (self.new ≡ record self.old { children = self.old.children ++ at_home pid ∷ [] }) }
+        ensures err { OnErr result (self.new ≡ self.old) }
+    {
+        self.children.push(Addr {
+            pid,
+            at: pid.home,
+            moves: 0,
+        })
+    }
+
+    /// The answer to a request that is pending, one byte and at most 4 links, over its link, if it has one.
+    fn answer_to(
+        &self,
+        alloc: Global,
         here: u8,
         request: Pending,
         code: u8,
         links: &[Link],
-    ) -> Option<Message>
-        requires counts { self.old.sent < u32.MAX }
-        requires links { length links.now ≤ MOST_LINKS }
-        ensures { record { manager = self.new; message = result } ≡ answers_over here self.old request.answer code links.now }
+    ) -> Result<Option<Message>, NoMemory>
+        requires { length links.now ≤ MOST_LINKS }
+        ensures { IfOk result (λ sent. sent ≡ (answers_over here self.now request.answer code links.now).message) }
     {
-        let link = request.answer?;
-        Some(self.answer(here, &link, code, links))
+        let Some(link) = request.answer else {
+            return Ok(None);
+        };
+        answer_over(alloc, here, self.moves, self.sent, &link, code, links).map(Some)
+    }
+
+    /// A request isn't pending any more; its answer, if it is sent, counts.
+    fn settle(&mut self, number: u32, answered: bool)
+        requires pending { IsSome (pending_request number self.old.pending) }
+        requires counts { self.old.sent < u32.MAX }
+        ensures { self.new ≡ record (settled self.old number) { sent = if answered then self.old.sent + 1 else self.old.sent } }
+    {
+        self.pending.take(number);
+        if answered {
+            self.sent += 1;
+        }
     }
 
     /// The message that tells a child, the switchboard or the manager itself to move to machine `to`, under the name `id`, from

@@ -1,9 +1,11 @@
 //! The messages of the process manager.
-ghost use Rattle.std.specs.Prelude.{◌≡◌, ◌≤◌, length};
+ghost use Rattle.std.specs.Prelude.{◌≡◌, ◌≤◌, IfOk, length};
 ghost use Rattle.dm_procman.specs.Making.{address_at, answer_over, control_link, message_to};
 
 use dm_link::{Addr, Area, Kind, Link, MANAGER};
+use dm_memory::NoMemory;
 use dm_message::{Body, Enclosed, MOST_LINKS, Message, MsgId, What};
+use std::alloc::Global;
 
 /// The manager on machine `here`, where it came after so many moves.
 pub fn address_at(here: u8, moves: u32) -> Addr
@@ -34,27 +36,24 @@ pub fn message_to(here: u8, moves: u32, number: u32, to: Addr, what: What) -> Me
 
 /// The manager's message of this number from machine `here` over a link: one byte, with at most 4 links.
 pub fn answer_over(
+    alloc: Global,
     here: u8,
     moves: u32,
     number: u32,
     link: &Link,
     code: u8,
     links: &[Link],
-) -> Message
+) -> Result<Message, NoMemory>
     requires { length links.now ≤ MOST_LINKS }
-    ensures { result ≡ answer_over here moves number link.now code links.now }
+    ensures { IfOk result (λ message. message ≡ answer_over here moves number link.now code links.now) }
 {
-    let mut body = Body::new();
-    body.push(code);
-    let mut enclosed = Enclosed::new();
-    let _ = enclosed.try_extend_from_slice(links);
     let what = What::User {
         code: link.code,
         channel: link.channel,
-        body,
-        links: enclosed,
+        body: Body::from_slice(alloc, &[code])?,
+        links: Enclosed::from_slice(alloc, links)?,
     };
-    message_to(here, moves, number, link.addr, what)
+    Ok(message_to(here, moves, number, link.addr, what))
 }
 
 /// The link by which a child is controlled, to the manager on machine `here`; its code is the child's number, from 1.

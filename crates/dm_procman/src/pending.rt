@@ -73,6 +73,14 @@ impl Unanswered {
         is_there(&self.ascending, self.others.as_slice(), number)
     }
 
+    /// The first request of this number.
+    pub fn numbered(&self, number: u32) -> Pending
+        requires { IsSome (pending_request number self.now) }
+        ensures { pending_request number self.now ≡ Some result }
+    {
+        first_of(&self.ascending, self.others.as_slice(), number).unwrap()
+    }
+
     /// A list of them, in order.
     pub fn listed(&self) -> Result<Vec<Pending>, NoMemory>
         ensures { IfOk result (λ list. list.items ≡ self.now) }
@@ -139,6 +147,29 @@ fn is_there(ascending: &BTreeMap<u32, Pending>, others: &[Pending], number: u32)
     ensures { result ≡ is_some (pending_request number (values ascending.now ++ others.now)) }
 {
     ascending.contains_key(&number) || place_of(others, number).is_some()
+}
+
+/// The first request of this number in a list.
+fn find(pending: &[Pending], number: u32) -> Option<Pending>
+    ensures { result ≡ pending_request number pending.now }
+{
+    for request in pending {
+        if has_number(request, number) {
+            return Some(*request);
+        }
+    }
+    None
+}
+
+/// The first request of this number.
+fn first_of(ascending: &BTreeMap<u32, Pending>, others: &[Pending], number: u32) -> Option<Pending>
+    requires { IsNumbered ascending.now.entries }
+    ensures { result ≡ pending_request number (values ascending.now ++ others.now) }
+{
+    match ascending.get(&number) {
+        Some(request) => Some(*request),
+        None => find(others, number),
+    }
 }
 
 /// Adds those that stand under their numbers.

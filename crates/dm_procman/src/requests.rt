@@ -6,11 +6,12 @@ ghost use Rattle.dm_procman.specs.Making.{message_to};
 
 use crate::making::{answer_over, message_to};
 use crate::{Pending, ProcMan};
-use arrayvec::ArrayVec;
 use dm_link::{Addr, Link};
+use dm_lists::Bounded;
 use dm_memory::NoMemory;
 use dm_message::{MOST_LINKS, Message, What};
 use dm_onekernel::PendingKind;
+use std::alloc::Global;
 
 /// The first byte of a request over a link with code 0: a process is to be made.
 const CREATE: u8 = 1;
@@ -66,25 +67,39 @@ impl ProcMan {
     }
 
     /// One byte goes over the link of an answer, with at most 4 links.
-    pub(crate) fn answer(&mut self, here: u8, link: &Link, code: u8, links: &[Link]) -> Message
+    fn answer(
+        &mut self,
+        alloc: Global,
+        here: u8,
+        link: &Link,
+        code: u8,
+        links: &[Link],
+    ) -> Result<Message, NoMemory>
         requires counts { self.old.sent < u32.MAX }
         requires links { length links.now ≤ MOST_LINKS }
-        ensures { record { manager = self.new; message = Some result } ≡ answers here self.old link.now code links.now }
+        ensures exact { IfOk result (λ sent. record { manager = self.new; message = Some sent } ≡ answers here self.old link.now code links.now) }
+        ensures err { OnErr result (self.new ≡ self.old) }
     {
-        let message = answer_over(here, self.moves, self.sent, link, code, links);
+        let message = answer_over(alloc, here, self.moves, self.sent, link, code, links)?;
         self.sent += 1;
-        message
+        Ok(message)
     }
 
     /// A bad request is answered over its first link, if it has one.
-    fn bad_request(&mut self, here: u8, links: &[Link]) -> Option<Message>
+    fn bad_request(
+        &mut self,
+        alloc: Global,
+        here: u8,
+        links: &[Link],
+    ) -> Result<Option<Message>, NoMemory>
         requires { self.old.sent < u32.MAX }
-        ensures { record { manager = self.new; message = result } ≡ bad_request here self.old links.now }
+        ensures exact { IfOk result (λ sent. record { manager = self.new; message = sent } ≡ bad_request here self.old links.now) }
+        ensures err { OnErr result (self.new ≡ self.old) }
     {
         let [first, ..] = links else {
-            return None;
+            return Ok(None);
         };
-        Some(self.answer(here, first, BAD_REQUEST, &[]))
+        self.answer(alloc, here, first, BAD_REQUEST, &[]).map(Some)
     }
 
     /// Sends a request, which waits for the answer.
@@ -112,6 +127,7 @@ impl ProcMan {
     /// Takes a body that came over a link with code 0: it asks that a process be made.
     pub(crate) fn request(
         &mut self,
+        alloc: Global,
         here: u8,
         body: &[u8],
         links: &[Link],
@@ -124,15 +140,16 @@ impl ProcMan {
         match body {
             [CREATE, machine, high, low] => {
                 let image = 256 * u16::from(*high) + u16::from(*low);
-                self.want_child(here, *machine, image, links)
+                self.want_child(alloc, here, *machine, image, links)
             },
-            _ => Ok(self.bad_request(here, links)),
+            _ => self.bad_request(alloc, here, links),
         }
     }
 
     /// Asks for a process if there are that machine, that image, and a link for the answer.
     fn want_child(
         &mut self,
+        alloc: Global,
         here: u8,
         machine: u8,
         image: u16,
@@ -147,16 +164,17 @@ impl ProcMan {
             return Ok(None);
         };
         if machine < self.machines && image < self.images {
-            self.ask_for(here, machine, image, *answer, others)
+            self.ask_for(alloc, here, machine, image, *answer, others)
                 .map(Some)
         } else {
-            Ok(self.bad_request(here, links))
+            self.bad_request(alloc, here, links)
         }
     }
 
     /// Asks the kernel of a machine for a process; the request waits for the answer.
     fn ask_for(
         &mut self,
+        alloc: Global,
         here: u8,
         machine: u8,
         image: u16,
@@ -168,11 +186,9 @@ impl ProcMan {
         ensures exact { IfOk result (λ sent. asks_for here self.old machine image answer links.now ≡ record { manager = self.new; message = Some sent }) }
         ensures err { OnErr result (self.new ≡ self.old) }
     {
-        let mut enclosed = ArrayVec::new();
-        let _ = enclosed.try_extend_from_slice(links);
         let what = What::Create {
             image,
-            links: enclosed,
+            links: Bounded::from_slice(alloc, links)?,
         };
         self.ask(
             here,
@@ -186,6 +202,7 @@ impl ProcMan {
     /// Takes a body that came over a link with the number of a child as its code.
     pub(crate) fn control(
         &mut self,
+        alloc: Global,
         here: u8,
         code: u32,
         body: &[u8],
@@ -197,35 +214,38 @@ impl ProcMan {
         ensures err { OnErr result (self.new ≡ self.old) }
     {
         let Some(child) = self.children.numbered(code) else {
-            return Ok(self.bad_request(here, links));
+            return self.bad_request(alloc, here, links);
         };
         match body {
-            [operation] => Ok(self.control_child(here, child, *operation, links)),
-            [MOVE, machine] => self.want_move(here, child, *machine, links),
-            _ => Ok(self.bad_request(here, links)),
+            [operation] => self.control_child(alloc, here, child, *operation, links),
+            [MOVE, machine] => self.want_move(alloc, here, child, *machine, links),
+            _ => self.bad_request(alloc, here, links),
         }
     }
 
     /// Stops, resumes or kills a child.
     fn control_child(
         &mut self,
+        alloc: Global,
         here: u8,
         child: Addr,
         operation: u8,
         links: &[Link],
-    ) -> Option<Message>
+    ) -> Result<Option<Message>, NoMemory>
         requires { self.old.sent < u32.MAX }
-        ensures { controls_child here self.old child (control_of operation) links.now ≡ record { manager = self.new; message = result } }
+        ensures exact { IfOk result (λ sent. controls_child here self.old child (control_of operation) links.now ≡ record { manager = self.new; message = sent }) }
+        ensures err { OnErr result (self.new ≡ self.old) }
     {
         match Control::from_byte(operation) {
-            Some(control) => Some(self.send(here, child, control.what())),
-            None => self.bad_request(here, links),
+            Some(control) => Ok(Some(self.send(here, child, control.what()))),
+            None => self.bad_request(alloc, here, links),
         }
     }
 
     /// Asks a child to move to a machine, if there is that machine; the request waits for the answer.
     fn want_move(
         &mut self,
+        alloc: Global,
         here: u8,
         child: Addr,
         machine: u8,
@@ -236,7 +256,7 @@ impl ProcMan {
         ensures err { OnErr result (self.new ≡ self.old) }
     {
         if machine >= self.machines {
-            return Ok(self.bad_request(here, links));
+            return self.bad_request(alloc, here, links);
         }
         let answer = links.first().copied();
         self.ask(

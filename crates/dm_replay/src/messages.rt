@@ -38,7 +38,10 @@ impl Kernel {
         ensures fit { (n : _) → IsSound n self.now → IfOk result IsLawfulMessage }
     {
         match self.bag.get(id) {
-            Some(message) => Ok(message.get().copied()),
+            Some(message) => {
+                let copy = message.get().copied(self.alloc)?;
+                Ok(copy)
+            }
             None => Err(Refusal::NoStep),
         }
     }

@@ -78,7 +78,7 @@ impl Kernel {
     {
         match &message.what {
             What::User { .. } => {
-                let took = self.board.take(message, HERE)?;
+                let took = self.board.take(self.alloc, message, HERE)?;
                 self.put_sent(took.answer)
             }
             _ => Err(Refusal::NoStep),
@@ -97,7 +97,7 @@ impl Kernel {
         if !is_for_manager(&self.manager, message.id.n, &message.what) {
             return Err(Refusal::NoStep);
         }
-        let sent = self.manager.take(message, HERE)?;
+        let sent = self.manager.take(self.alloc, message, HERE)?;
         self.put_sent(sent)
     }
 }

@@ -110,7 +110,7 @@ impl Kernel {
             return Err(Refusal::NoStep);
         }
         let mut process = process;
-        let answer = serve(&mut process, message, HERE);
+        let answer = serve(self.alloc, &mut process, message, HERE)?;
         self.put_back(message.to.pid, process);
         self.put_message(answer)
     }
@@ -130,7 +130,7 @@ impl Kernel {
             return Err(Refusal::NoStep);
         }
         let mut process = process;
-        let landed = land(&mut process, message, HERE);
+        let landed = land(self.alloc, &mut process, message, HERE)?;
         self.put_back(message.to.pid, process);
         match landed {
             Landed::Next(request) => self.put_message(request),

@@ -25,7 +25,7 @@ use dm_memory::NoMemory;
 use dm_message::{Message, What};
 pub use dm_statebytes::server::ServerError;
 use indexmap::IndexMap;
-use names::{Names, retarget_names};
+use names::{Decision, Names, keep, retarget_names};
 use reading::board_at;
 pub use reply::Reply;
 use requests::ask;
@@ -113,7 +113,7 @@ impl Switchboard {
     }
 
     /// Takes a user message on machine `here`, and answers a request that has a link for the answer.
-    pub fn take(&mut self, message: &Message, here: u8) -> Result<Took, NoMemory>
+    pub fn take(&mut self, alloc: Global, message: &Message, here: u8) -> Result<Took, NoMemory>
         requires user { kind_of message.now.what ≡ kind.User }
         requires counts { self.old.sent < u32.MAX }
         requires here { here < MACHINES }
@@ -125,6 +125,7 @@ impl Switchboard {
     {
         match &message.what {
             What::User { body, links, .. } => self.take_request(
+                alloc,
                 here,
                 body.as_slice(),
                 links.as_slice(),
@@ -135,7 +136,13 @@ impl Switchboard {
     }
 
     /// Takes a request with its links, the first for the answer.
-    fn take_request(&mut self, here: u8, body: &[u8], links: &[Link]) -> Result<Took, NoMemory>
+    fn take_request(
+        &mut self,
+        alloc: Global,
+        here: u8,
+        body: &[u8],
+        links: &[Link],
+    ) -> Result<Took, NoMemory>
         requires { self.old.sent < u32.MAX }
         ensures exact { IfOk result (λ t. takes_request here self.old body.now links.now ≡ record { board = self.new; took = t }) }
         ensures err { OnErr result (self.new ≡ self.old) }
@@ -146,8 +153,9 @@ impl Switchboard {
                 answer: None,
             });
         };
-        let reply = ask(&mut self.names, body, others)?;
-        let answer = reply.over(here, self.moves, first, self.sent);
+        let Decision { reply, new } = ask(&self.names, body, others);
+        let answer = reply.over(alloc, here, self.moves, first, self.sent)?;
+        keep(&mut self.names, new)?;
         self.sent += 1;
         Ok(Took {
             reply: Some(reply),

@@ -1,8 +1,9 @@
 //! The list of names.
-ghost use Rattle.std.specs.Prelude.{◌≡◌, ◌<◌, ◌^◌, IfOk, OnErr, count_by, length, map};
+ghost use Rattle.std.specs.Prelude.{◌≡◌, ◌<◌, ◌^◌, IfSome, None, OnErr, OnOk, Some, count_by, length, map};
 ghost use Rattle.dm_onekernel.specs.Boot.{is_general};
 ghost use Rattle.dm_switchboard.specs.Board.{listed, named_is_behind, retargeted_named};
 ghost use Rattle.dm_switchboard.specs.declared.reply.Reply.TheVariants as reply_;
+ghost use Rattle.dm_switchboard.specs.Deciding.{IsFree, decided, with_new};
 ghost use Rattle.dm_switchboard.specs.Following.{behind_at, told_at};
 ghost use Rattle.dm_switchboard.specs.Taking.{found_or_unknown, link_named, name_of, registers, registers_new};
 
@@ -61,29 +62,67 @@ fn may_be_kept(kind: Kind) -> bool
     }
 }
 
-/// Keeps a general link under a name that isn't taken.
-pub fn register(names: &mut Names, name: Name, link: Link) -> Result<Reply, NoMemory>
-    ensures ok { IfOk result (λ r. registers (listed names.old.entries) name.items link ≡ record { names = listed names.new.entries; reply = r }) }
-    ensures err { OnErr result (names.new.entries ≡ names.old.entries) }
+/// What a request comes to: the answer, and the name that is new then, with its link.
+#[derive(Drop)]
+pub struct Decision {
+    pub reply: Reply,
+    pub new: Option<(Name, Link)>,
+}
+
+/// An answer that leaves the names as they are.
+pub fn answered(reply: Reply) -> Decision
+    ensures { result ≡ record { reply = reply; new = None } }
+{
+    Decision { reply, new: None }
+}
+
+/// Whether a general link is to be kept under a name, which isn't taken then.
+pub fn register(names: &Names, name: Name, link: Link) -> Decision
+    ensures exact { registers (listed names.now.entries) name.items link ≡ decided (listed names.now.entries) result }
+    ensures free { IfSome result.new (IsFree (listed names.now.entries)) }
 {
     if may_be_kept(link.kind) {
         register_general(names, name, link)
     } else {
-        Ok(Reply::BadLink)
+        answered(Reply::BadLink)
+    }
+}
+
+/// Whether a link is to be kept under a name, which isn't taken then.
+fn register_general(names: &Names, name: Name, link: Link) -> Decision
+    ensures exact { registers_new (listed names.now.entries) name.items link (link_named name.items (listed names.now.entries)) ≡
+        decided (listed names.now.entries) result }
+    ensures free { IfSome result.new (IsFree (listed names.now.entries)) }
+{
+    if names.contains_key(&name) {
+        return answered(Reply::Taken);
+    }
+    Decision {
+        reply: Reply::Registered,
+        new: Some((name, link)),
+    }
+}
+
+/// Keeps a link under a name that isn't taken, if there is one to keep.
+pub fn keep(names: &mut Names, new: Option<(Name, Link)>) -> Result<(), NoMemory>
+    requires { IfSome new (IsFree (listed names.old.entries)) }
+    ensures ok { OnOk result (listed names.new.entries ≡ with_new (listed names.old.entries) new) }
+    ensures err { OnErr result (names.new.entries ≡ names.old.entries) }
+{
+    match new {
+        Some((name, link)) => keep_new(names, name, link),
+        None => Ok(()),
     }
 }
 
 /// Keeps a link under a name that isn't taken.
-fn register_general(names: &mut Names, name: Name, link: Link) -> Result<Reply, NoMemory>
-    ensures ok { IfOk result (λ r. registers_new (listed names.old.entries) name.items link (link_named name.items (listed names.old.entries)) ≡
-        record { names = listed names.new.entries; reply = r }) }
+fn keep_new(names: &mut Names, name: Name, link: Link) -> Result<(), NoMemory>
+    requires { IsFree (listed names.old.entries) (name, link) }
+    ensures ok { OnOk result (listed names.new.entries ≡ with_new (listed names.old.entries) (Some (name, link))) }
     ensures err { OnErr result (names.new.entries ≡ names.old.entries) }
 {
-    if names.contains_key(&name) {
-        return Ok(Reply::Taken);
-    }
     insert(names, name, link)?;
-    Ok(Reply::Registered)
+    Ok(())
 }
 
 /// Tells the link at a place that a process is on machine `at` after so many moves; whether it changed.

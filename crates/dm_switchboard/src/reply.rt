@@ -1,9 +1,11 @@
 //! What the switchboard answers.
-ghost use Rattle.std.specs.Prelude.{◌≡◌};
+ghost use Rattle.std.specs.Prelude.{◌≡◌, IfOk};
 ghost use Rattle.dm_switchboard.specs.Taking.{address_at, answer_over, code_of_reply, links_of_reply};
 
 use dm_link::{Addr, Link, SWITCHBOARD};
+use dm_memory::NoMemory;
 use dm_message::{Body, Enclosed, Message, MsgId, What};
+use std::alloc::Global;
 
 /// The switchboard on machine `here`, where it came after so many moves.
 fn address_at(here: u8, moves: u32) -> Addr
@@ -45,24 +47,34 @@ impl Reply {
     }
 
     /// The link that goes with it.
-    fn links(self) -> Enclosed
-        ensures { result.items ≡ links_of_reply self }
+    fn links(self, alloc: Global) -> Result<Enclosed, NoMemory>
+        ensures { IfOk result (λ links. links.items ≡ links_of_reply self) }
     {
-        let mut links = Enclosed::new();
-        if let Reply::Found(link) = self {
-            links.push(link);
+        match self {
+            Reply::Found(link) => Enclosed::from_slice(alloc, &[link]),
+            Reply::Registered
+            | Reply::Unknown
+            | Reply::Taken
+            | Reply::BadLink
+            | Reply::BadRequest => Ok(Enclosed::new(alloc)),
         }
-        links
     }
 
     /// The message that carries it over a link, the switchboard's message of this number from machine `here`, where it came
     /// after so many moves.
-    pub(crate) fn over(self, here: u8, moves: u32, link: &Link, number: u32) -> Message
-        ensures { result ≡ answer_over here moves number link.now self }
+    pub(crate) fn over(
+        self,
+        alloc: Global,
+        here: u8,
+        moves: u32,
+        link: &Link,
+        number: u32,
+    ) -> Result<Message, NoMemory>
+        ensures { IfOk result (λ message. message ≡ answer_over here moves number link.now self) }
     {
-        let mut body = Body::new();
-        body.push(self.code());
-        Message {
+        let body = Body::from_slice(alloc, &[self.code()])?;
+        let links = self.links(alloc)?;
+        Ok(Message {
             id: MsgId {
                 from: SWITCHBOARD,
                 n: number,
@@ -74,8 +86,8 @@ impl Reply {
                 code: link.code,
                 channel: link.channel,
                 body,
-                links: self.links(),
+                links,
             },
-        }
+        })
     }
 }

@@ -1,13 +1,13 @@
 //! Requests to the switchboard.
-ghost use Rattle.std.specs.Prelude.{◌≡◌, IfOk, OnErr};
+ghost use Rattle.std.specs.Prelude.{◌≡◌, IfSome};
 ghost use Rattle.dm_switchboard.specs.Board.{listed};
+ghost use Rattle.dm_switchboard.specs.Deciding.{IsFree, decided};
 ghost use Rattle.dm_switchboard.specs.Operations.{operation_of};
 ghost use Rattle.dm_switchboard.specs.Taking.{asks};
 
 use crate::Reply;
-use crate::names::{Names, look_up, name_of, register};
+use crate::names::{Decision, Names, answered, look_up, name_of, register};
 use dm_link::Link;
-use dm_memory::NoMemory;
 
 /// What a request asks for.
 #[derive(Clone, Copy)]
@@ -29,20 +29,20 @@ impl Operation {
     }
 }
 
-/// Carries out the request of a body, with the links behind the one for the answer.
-pub fn ask(names: &mut Names, body: &[u8], others: &[Link]) -> Result<Reply, NoMemory>
-    ensures ok { IfOk result (λ r. asks (listed names.old.entries) body.now others.now ≡ record { names = listed names.new.entries; reply = r }) }
-    ensures err { OnErr result (names.new.entries ≡ names.old.entries) }
+/// What the request of a body comes to, with the links behind the one for the answer.
+pub fn ask(names: &Names, body: &[u8], others: &[Link]) -> Decision
+    ensures exact { asks (listed names.now.entries) body.now others.now ≡ decided (listed names.now.entries) result }
+    ensures free { IfSome result.new (IsFree (listed names.now.entries)) }
 {
     let [operation, bytes @ ..] = body else {
-        return Ok(Reply::BadRequest);
+        return answered(Reply::BadRequest);
     };
     let Some(name) = name_of(bytes) else {
-        return Ok(Reply::BadRequest);
+        return answered(Reply::BadRequest);
     };
     match (Operation::from_byte(*operation), others) {
         (Some(Operation::Register), [link]) => register(names, name, *link),
-        (Some(Operation::LookUp), []) => Ok(look_up(names, &name)),
-        _ => Ok(Reply::BadRequest),
+        (Some(Operation::LookUp), []) => answered(look_up(names, &name)),
+        _ => answered(Reply::BadRequest),
     }
 }

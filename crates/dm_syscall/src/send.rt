@@ -35,7 +35,7 @@ pub fn send(alloc: Global, process: &mut Process, here: u8) -> Result<Called, No
             Some(refusal) => Ok(reply(process, refusal)),
             None => {
                 let slots = listed(process);
-                let message = message_over(process, link, slots.as_slice(), here);
+                let message = message_over(alloc, process, link, slots.as_slice(), here)?;
                 let message = Parcel::new(alloc, message)?;
                 count_sent(process, slots.as_slice());
                 Ok(Called::Sent(message))
@@ -154,14 +154,22 @@ fn lists_reply_twice(table: &Table, slots: &[u8]) -> bool
 }
 
 /// The message that a process sends over a link.
-fn message_over(process: &Process, link: Link, slots: &[u8], here: u8) -> Message
+fn message_over(
+    alloc: Global,
+    process: &Process,
+    link: Link,
+    slots: &[u8],
+    here: u8,
+) -> Result<Message, NoMemory>
     requires short { reg process.now.regs 3 ≤ MOST_BODY }
     requires within { reg process.now.regs 2 + reg process.now.regs 3 ≤ length process.now.memory }
     requires few { length slots.now ≤ 4 }
     requires listed { slots.now ≡ listed process.now }
-    ensures { result ≡ message_over here process.now link }
+    ensures { IfOk result (λ message. message ≡ message_over here process.now link) }
 {
-    Message {
+    let body = body_at(alloc, &process.memory, process.regs.r[2], process.regs.r[3])?;
+    let links = links_in(&process.table, slots);
+    Ok(Message {
         id: MsgId {
             from: process.pid,
             n: process.sent,
@@ -172,18 +180,18 @@ fn message_over(process: &Process, link: Link, slots: &[u8], here: u8) -> Messag
         what: What::User {
             code: link.code,
             channel: link.channel,
-            body: body_at(&process.memory, process.regs.r[2], process.regs.r[3]),
-            links: links_in(&process.table, slots),
+            body,
+            links: Enclosed::from_slice(alloc, &links)?,
         },
-    }
+    })
 }
 
 /// The links in these slots, in order.
-fn links_in(table: &Table, slots: &[u8]) -> Enclosed
+fn links_in(table: &Table, slots: &[u8]) -> ArrayVec<Link, MOST_LINKS>
     requires { length slots.now ≤ 4 }
     ensures { result ≡ record { items = links_in table.now slots.now } }
 {
-    let mut links = Enclosed::new();
+    let mut links = ArrayVec::new();
     for slot in slots {
         if let Some(link) = link_in(table, u32::from(*slot)) {
             links.push(link);

@@ -115,7 +115,7 @@ fn begin(
         own,
         left,
     };
-    let request = request(process, rest, here);
+    let request = request(alloc, process, rest, here)?;
     let request = Parcel::new(alloc, request)?;
     Ok(Called::Moving(request))
 }

@@ -1,7 +1,6 @@
 pub mod Names
 pub mod Nodes
 pub mod Seats
-pub mod Speaking
 pub mod Stepping
 pub mod Rereading
 pub mod Alone

@@ -2,7 +2,7 @@
 pub use Rattle.std.proofs.Common.{get_or-set_other, get_or-set_same, length-set, mul-suc}
 pub use Rattle.std.proofs.Math.Seq.{get_or-append_seam, take-suc}
 pub use Rattle.std.proofs.lemmas.Iterator.Adapters.{position_from-zero}
-pub use Rattle.std.proofs.lemmas.List.{drop_all, drop_more}
+pub use Rattle.std.proofs.lemmas.List.{drop_all}
 pub use Rattle.std.proofs.lemmas.List.Elements.{All-weaker}
 pub use Rattle.std.proofs.lemmas.Option.{slice_get-get_or, slice_get_cases, slice_get_past}
 pub use Rattle.std.specs.List.{position_from}
@@ -14,7 +14,7 @@ pub use Rattle.dm_wire.proofs.Names.{Sent, is_unseen, just_put, marked}
 pub use Rattle.dm_wire.specs.Sent.{bytes_at}
 pub use Rattle.dm_wire.specs.Wire.{after_mark, is_pair, packets_on}
 pub use Rattle.dm_linktable.proofs.Names.{pid_cmp}
-pub use Rattle.dm_packet.proofs.Names.{cond, drop_at, leb-true, option_map, packet_of, spelling}
+pub use Rattle.dm_packet.proofs.Names.{cond, drop_at, leb-true, option_map, packet_of}
 pub use Rattle.dm_schedule.specs.declared.Directive.{Directive}
 pub use Rattle.dm_schedule.specs.declared.Step.{Step}
 pub use Rattle.dm_statebytes.proofs.Names.{PacketError, ◌^◌}
@@ -37,13 +37,13 @@ pub use Rattle.dm_kernel.proofs.Names.{Global, IsLawfulNamed, IsSome, IsValid, M
 pub use Rattle.dm_node.proofs.Here.{opened_here}
 pub use Rattle.dm_node.proofs.Names.{Ack, Acted, Acts, ActsLawfully, All, All-head, All-tail, AnswersSome, Bool, Boot, Data, Err, FreezesWhole, Gave, Goes, HasStreams, IsLawfulOut, IsLawfulState, Line, Link, List, Load, MayAct, MayArrive}
 pub use Rattle.dm_node.proofs.Names.{MayArrivePacket, MayAskMove, MayCallOff, MayTurn, Message, NodeState, None, Ok, Option, Packet, Pid, Result, Some, Worn, [], ap, append-nil, append_assoc, arith, arrives_packet, at_machine, eqb_tells}
-pub use Rattle.dm_node.proofs.Names.{false, get_or_from_slice_get, here, if◌then◌else◌, images_are_valid, inl, inr, leb_tells, length, node_opened, node_state, pid_eq, refl, slice_get, slice_get_within, subst, suc, sym, tick, true}
+pub use Rattle.dm_node.proofs.Names.{false, get_or_from_slice_get, here, if◌then◌else◌, images_are_valid, inl, inr, leb_tells, length, node_opened, node_state, on_ok_weaker, pid_eq, refl, slice_get, slice_get_within, subst, suc, sym, tick, true}
 pub use Rattle.dm_node.proofs.Names.{with_items, with_items_is, zero, ℕ, ⊤, ◌*◌, ◌++◌, ◌+◌, ◌-◌, ◌<◌, ◌==◌, ◌∙◌, ◌∷◌, ◌≡◌, ◌≢◌, ◌≤◌}
 pub use Rattle.dm_node.proofs.Sends.{arrives_lawfully, asks_lawfully, calls_off_lawfully, ticks_lawfully, turns_lawfully}
 pub use Rattle.dm_node.specs.Acts.{asks_move, calls_off, turn}
 pub use Rattle.dm_node.specs.Lawful.{IsFrom}
-pub use Rattle.dm_node.specs.Meets.{GaveSome, IfWorn, IsWornSome}
-pub use Rattle.dm_node.specs.Wired.{Spoken, packet_line, spoken, with_packet}
+pub use Rattle.dm_node.specs.Meets.{IsWornSome, OrNoMemory}
+pub use Rattle.dm_node.specs.Wired.{Spoke, Spoken, so_far, spoken, with_packet}
 pub use Rattle.dm_node.specs.declared.node.Node.{Node}
 pub use Rattle.dm_node.specs.declared.out.Out.{Out}
 pub use Rattle.dm_node.specs.declared.out.Out.TheVariants.{Sends}
@@ -59,7 +59,6 @@ pub use Rattle.dm_world.specs.Meets.{ActedAt, ActedSome, Answers, AreNodes, IsNo
 unfoldable pub use Rattle.dm_world.specs.Meets.{ended_in, node_in}
 pub use Rattle.dm_world.specs.Next.{all_heard, first_unseen, world_has_mail, world_is_quiet, world_next_step, world_seen, world_serves, world_undelivered}
 pub use Rattle.dm_world.specs.Readable.{AreReadBack, gave_bytes, gave_read, gave_some}
-pub use Rattle.dm_world.specs.Spoke.{Spoke}
 pub use Rattle.dm_world.specs.World.{Happened, Said, Says, WorldState, WornOut, acted, arrives, asks_at, delivers, keeps_over, over_in, reads, seat_of, turned, with_over, world_step}
 pub use Rattle.dm_world.specs.declared.cursor.Cursor.{Cursor}
 pub use Rattle.dm_world.specs.declared.cursor.Cursor.TheVariants.{One, Passing}

@@ -1,8 +1,8 @@
 -- The machines of the code: one of them acts, and the others stay.
 use Rattle.dm_world.proofs.Names.{◌≡◌, ◌≢◌, ℕ, suc, ◌+◌, ◌<◌, ◌≤◌, Bool, List, [], ◌∷◌, ◌++◌, length, refl, sym, ap, subst, ◌∙◌, inl, inr, arith, length-set, get_or, get_or-set_same, get_or-set_other, length-append, get_or-append_seam}
 use Rattle.dm_world.proofs.Names.{get_or_append_left, set, ◌⊎◌, if◌then◌else◌, slice_get, slice_index_or, Option, None, Some, Err, eqb_tells, leb_tells, leb-true, get_or_from_slice_get, slice_get-get_or, slice_get_cases}
-use Rattle.dm_world.proofs.Names.{slice_get_past, slice_get_within, Boot, Packet, Data, Ack, at_machine, Node, Stop, Out, NodeState, here, node_opened, Acted, Acts, Goes, Worn, arrives_packet, MayArrivePacket, arrives_lawfully}
-use Rattle.dm_world.proofs.Names.{option_map_or, ActsLawfully, AnswersSome, Gave, GaveSome, World, ActedAt, ActedSome, AreNodes, IsNode, IsWorld, TurnAnswers, node_in, node_state}
+use Rattle.dm_world.proofs.Names.{slice_get_past, slice_get_within, Boot, Packet, Data, Ack, at_machine, Node, Stop, NodeState, here, node_opened, Acted, Acts, Goes, Worn, arrives_packet, MayArrivePacket, arrives_lawfully}
+use Rattle.dm_world.proofs.Names.{option_map_or, ActsLawfully, AnswersSome, Gave, Ok, Result, Spoke, Spoken, World, ActedAt, AreNodes, IsNode, IsWorld, TurnAnswers, node_in, node_state}
 use Rattle.dm_packet.specs.declared.Packet.TheVariants as packet
 use Rattle.dm_node.specs.declared.stop.Stop.TheVariants as stop
 
@@ -73,10 +73,10 @@ are_set nodes m x h are is =
 pub kept_here : (n : Node) (m : ℕ) (a : Acted) → node_state n ≡ a.state → ActsLawfully m a → n.kernel.here ≡ m
 kept_here n m a e h = ap here e ∙ h.here
 
-pub acted : (b : Boot) (nodes : List Node) (i m : ℕ) (x : Node) (outs : List Out) (a : Acted) → i ≡ m → m < length nodes → AreNodes nodes → Gave x [] outs a → ActsLawfully m a
-    → ActedAt b nodes (set nodes i x) m outs a
-acted b nodes i m x outs a same h are gave lawful =
-    subst (λ (k : ℕ). ActedAt b nodes (set nodes k x) m outs a) (sym same)
+pub acted : (b : Boot) (nodes : List Node) (i m : ℕ) (x : Node) (old new : Spoken) (a : Acted) → i ≡ m → m < length nodes → AreNodes nodes → Gave x old new a → ActsLawfully m a
+    → ActedAt b nodes (set nodes i x) m old new a
+acted b nodes i m x old new a same h are gave lawful =
+    subst (λ (k : ℕ). ActedAt b nodes (set nodes k x) m old new a) (sym same)
     (record {
       nodes = λ c. node_set b nodes m x h c ∙ ap (λ (s : NodeState). at_machine (node_in b nodes) m s c) gave.state;
       size = length-set nodes m x;
@@ -89,16 +89,13 @@ pub here_at : (b : Boot) (nodes : List Node) (m : ℕ) (d : Node) → m < length
 here_at b nodes m d h are = sym (ap here (node_at b nodes m m d refl h)) ∙ (is_node_at nodes m m d refl h are).here
 
 -- a turn, which may not have taken place
-pub acted_some : (b : Boot) (nodes : List Node) (i m : ℕ) (x : Node) (old outs : List Out) (o : Option Acts) → i ≡ m → m < length nodes → AreNodes nodes → old ≡ [] → GaveSome x old outs o
-    → ((a : Acted) → o ≡ Some (Goes a) → ActsLawfully m a) → ActedSome b nodes (set nodes i x) m outs o
-acted_some b nodes i m x old outs None same h are none gave lawful = gave
-acted_some b nodes i m x old outs (Some (Goes a)) same h are none gave lawful =
-    acted b nodes i m x outs a same h are (subst (λ ys. Gave x ys outs a) none gave) (lawful a refl)
-acted_some b nodes i m x old outs (Some (Worn from to)) same h are none gave lawful = gave
-
-pub stopped : (e : Stop) (b : Boot) (old new : List Node) (m : ℕ) (n : Node) (before after : List Out) (o : Option Acts) → AnswersSome (Err e) n before after o → TurnAnswers (Err e) b old new m o
-stopped (stop.Worn from to) b old new m n before after o h = h
-stopped (stop.NoMemory e) b old new m n before after o h = tt
+pub acted_some : (r : Result Unit Stop) (b : Boot) (nodes : List Node) (i m : ℕ) (x : Node) (old new : Spoken) (o : Option Acts) → i ≡ m → m < length nodes → AreNodes nodes → AnswersSome r x old new o
+    → ((a : Acted) → o ≡ Some (Goes a) → ActsLawfully m a) → TurnAnswers r b nodes (set nodes i x) m old new o
+acted_some (Ok done) b nodes i m x old new None same h are gave lawful = gave
+acted_some (Ok done) b nodes i m x old new (Some (Goes a)) same h are gave lawful = acted b nodes i m x old new a same h are gave (lawful a refl)
+acted_some (Ok done) b nodes i m x old new (Some (Worn from to)) same h are gave lawful = gave
+acted_some (Err (stop.Worn from to)) b nodes i m x old new o same h are gave lawful = gave
+acted_some (Err (stop.NoMemory e)) b nodes i m x old new o same h are gave lawful = tt
 
 -- a machine that acts and stays as it is
 at_same : {X : Type 0} (f : ℕ → X) (m c : ℕ) → f c ≡ at_machine f m (f m) c
@@ -108,8 +105,8 @@ at_same f m c =
       | inr e ↦ sym (ap (λ (t : Bool). if t then f m else f c) e.0)
     ]
 
-pub acted_still : (b : Boot) (nodes : List Node) (m : ℕ) (outs : List Out) (a : Acted) → AreNodes nodes → a.state ≡ node_in b nodes m → outs ≡ a.outs → ActedAt b nodes nodes m outs a
-acted_still b nodes m outs a are same e =
+pub acted_still : (b : Boot) (nodes : List Node) (m : ℕ) (old new : Spoken) (a : Acted) → AreNodes nodes → a.state ≡ node_in b nodes m → Spoke old new a.outs → ActedAt b nodes nodes m old new a
+acted_still b nodes m old new a are same e =
     record { nodes = λ c. at_same (node_in b nodes) m c ∙ ap (λ (s : NodeState). at_machine (node_in b nodes) m s c) (sym same); size = refl; are = are; outs = e }
 
 -- a packet comes

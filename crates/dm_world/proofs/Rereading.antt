@@ -1,23 +1,15 @@
 -- What a machine gave is read again as it was put.
-use Rattle.dm_world.proofs.Names.{◌≡◌, ℕ, List, ◌∷◌, sym, ap, subst, ◌∙◌, option_map, Option, None, Some, Ok, Packet, packet_of, spelling, Data, Ack, bytes_at, Boot, Line, Node, Out, Sends, Acts, Goes, Worn, MayDeliver, MayRead, sent_by}
+use Rattle.dm_world.proofs.Names.{◌≡◌, ℕ, List, sym, ap, subst, ◌∙◌, option_map, Option, None, Some, Ok, Packet, packet_of, Data, Ack, bytes_at, Boot, Node, Spoken, Acts, Goes, Worn, MayDeliver, MayRead, sent_by}
 use Rattle.dm_world.proofs.Names.{ActedSome, AreReadBack, gave_bytes, gave_read, gave_some, WorldState}
 use Rattle.dm_packet.specs.declared.Packet.TheVariants as packet
-use Rattle.dm_node.specs.declared.out.Out.TheVariants.{Says}
 use Rattle.dm_node.specs.Acts as node
 use Rattle.dm_world.proofs.Delivering.{may_read, read_bytes}
 
--- where what is left is read back, all is
-pub back_line : (l : Line) (all outs items : List Out) → items ≡ Says l ∷ outs → (AreReadBack items → AreReadBack all) → AreReadBack outs → AreReadBack all
-back_line l all outs items is h rest = h (subst AreReadBack (sym is) rest)
-
-pub back_packet : (p : Packet) (all outs items : List Out) → items ≡ Sends p ∷ outs → packet_of (spelling p) ≡ Ok p → (AreReadBack items → AreReadBack all) → AreReadBack outs → AreReadBack all
-back_packet p all outs items is again h rest = h (subst AreReadBack (sym is) (again, rest))
-
 -- a turn, which may not have taken place
-pub turn_back : (b : Boot) (xs ys : List Node) (m : ℕ) (outs : List Out) (o : Option Acts) → ActedSome b xs ys m outs o → AreReadBack outs → AreReadBack (gave_some o)
-turn_back b xs ys m outs None h back = absurd h
-turn_back b xs ys m outs (Some (Goes a)) h back = subst AreReadBack h.outs back
-turn_back b xs ys m outs (Some (Worn from to)) h back = absurd h
+pub turn_back : (b : Boot) (xs ys : List Node) (m : ℕ) (before after : Spoken) (o : Option Acts) → ActedSome b xs ys m before after o → AreReadBack (gave_some o)
+turn_back b xs ys m before after None h = absurd h
+turn_back b xs ys m before after (Some (Goes a)) h = h.outs.again
+turn_back b xs ys m before after (Some (Worn from to)) h = absurd h
 
 -- a packet that came
 gave_packet : (w : WorldState) (a c : ℕ) (p : Packet) → sent_by p ≡ a → gave_read w a c (Ok p) ≡ (node.arrives_packet (w.nodes c) p).outs
@@ -31,6 +23,6 @@ gave_at w a c p (Some bytes) read may =
     let h : MayRead w a c (Ok p) = may_read w a c (packet_of bytes) p is may in
     ap (gave_read w a c) is ∙ gave_packet w a c p h.0
 
-pub packet_back : (w : WorldState) (a c k : ℕ) (p : Packet) (outs : List Out) → option_map packet_of (bytes_at (w.wires a c) k) ≡ Some (Ok p) → MayDeliver w a c (bytes_at (w.wires a c) k)
-    → outs ≡ (node.arrives_packet (w.nodes c) p).outs → AreReadBack outs → AreReadBack (gave_bytes w a c (bytes_at (w.wires a c) k))
-packet_back w a c k p outs read may is back = subst AreReadBack (is ∙ sym (gave_at w a c p (bytes_at (w.wires a c) k) read may)) back
+pub packet_back : (w : WorldState) (a c k : ℕ) (p : Packet) → option_map packet_of (bytes_at (w.wires a c) k) ≡ Some (Ok p) → MayDeliver w a c (bytes_at (w.wires a c) k)
+    → AreReadBack (node.arrives_packet (w.nodes c) p).outs → AreReadBack (gave_bytes w a c (bytes_at (w.wires a c) k))
+packet_back w a c k p read may back = subst AreReadBack (sym (gave_at w a c p (bytes_at (w.wires a c) k) read may)) back

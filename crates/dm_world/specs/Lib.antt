@@ -3,7 +3,6 @@ pub mod May
 pub mod Next
 pub mod Ends
 pub mod Meets
-pub mod Spoke
 pub mod Local
 pub mod Cursor
 pub mod Readable

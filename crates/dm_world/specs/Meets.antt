@@ -18,9 +18,9 @@ use Rattle.dm_line.specs.Sets.{at_machine}
 use Rattle.dm_node.specs.declared.node.Node.{Node}
 use Rattle.dm_node.specs.declared.stop.Stop.{Stop}
 use Rattle.dm_node.specs.declared.stop.Stop.TheVariants as stop
-use Rattle.dm_node.specs.declared.out.Out.{Out}
 use Rattle.dm_node.specs.State.{NodeState, node_opened}
 use Rattle.dm_node.specs.Out.{Acted, Acts, Goes, Worn}
+use Rattle.dm_node.specs.Wired.{Spoke, Spoken}
 use Rattle.dm_node.specs.Meets as node
 use Rattle.dm_node.specs.Meets.{HasStreams, IsWornSome}
 use Rattle.dm_world.specs.declared.world.World.{World}
@@ -51,22 +51,22 @@ pub record IsWorld (w : World) : Type 0 where
   pub machines : length w.nodes.items ≡ length w.boot.machines
   pub nodes : AreNodes w.nodes.items
 
--- machine m of some machines has acted, and gave this; the others are as they were
-pub record ActedAt (b : Boot) (old new : List Node) (m : ℕ) (gave : List Out) (a : Acted) : Type 0 where
+-- machine m of some machines has acted, and said this behind what was said before; the others are as they were
+pub record ActedAt (b : Boot) (old new : List Node) (m : ℕ) (before after : Spoken) (a : Acted) : Type 0 where
   pub nodes : (c : ℕ) → node_in b new c ≡ at_machine (node_in b old) m a.state c
   pub size : length new ≡ length old
   pub are : AreNodes new
-  pub outs : gave ≡ a.outs
+  pub outs : Spoke before after a.outs
 
-abbrev pub ActedSome : Boot → List Node → List Node → ℕ → List Out → Option Acts → Type 0
-ActedSome b old new m outs None = ⊥
-ActedSome b old new m outs (Some (Goes a)) = ActedAt b old new m outs a
-ActedSome b old new m outs (Some (Worn from to)) = ⊥
+abbrev pub ActedSome : Boot → List Node → List Node → ℕ → Spoken → Spoken → Option Acts → Type 0
+ActedSome b old new m before after None = ⊥
+ActedSome b old new m before after (Some (Goes a)) = ActedAt b old new m before after a
+ActedSome b old new m before after (Some (Worn from to)) = ⊥
 
-abbrev pub TurnAnswers : Result (Vec Out Global) Stop → Boot → List Node → List Node → ℕ → Option Acts → Type 0
-TurnAnswers (Ok outs) b old new m o = ActedSome b old new m outs.items o
-TurnAnswers (Err (stop.Worn from to)) b old new m o = IsWornSome from to o
-TurnAnswers (Err (stop.NoMemory e)) b old new m o = ⊤
+abbrev pub TurnAnswers : Result Unit Stop → Boot → List Node → List Node → ℕ → Spoken → Spoken → Option Acts → Type 0
+TurnAnswers (Ok done) b old new m before after o = ActedSome b old new m before after o
+TurnAnswers (Err (stop.Worn from to)) b old new m before after o = IsWornSome from to o
+TurnAnswers (Err (stop.NoMemory e)) b old new m before after o = ⊤
 
 -- the world is in this state, and the lines are these
 pub record Meets (w : WorldState) (lines : List Line) (h : Happened) : Type 0 where

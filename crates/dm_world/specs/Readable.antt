@@ -1,5 +1,5 @@
 -- What machines put on wires is read again as it was put.
-use Rattle.std.specs.Prelude.{◌≡◌, ⊤, ℕ, ◌≤◌, List, [], ◌∷◌, length}
+use Rattle.std.specs.Prelude.{◌≡◌, ℕ, ◌≤◌, List, [], length}
 use Rattle.std.specs.declared.option.Option.{Option}
 use Rattle.std.specs.declared.option.Option.TheVariants.{None, Some}
 use Rattle.std.specs.declared.result.Result.{Result}
@@ -18,9 +18,9 @@ use Rattle.dm_schedule.specs.declared.Step.{Step}
 use Rattle.dm_schedule.specs.declared.Step.TheVariants as step
 use Rattle.dm_node.specs.State.{NodeState, here}
 use Rattle.dm_node.specs.declared.out.Out.{Out}
-use Rattle.dm_node.specs.declared.out.Out.TheVariants.{Says, Sends}
 use Rattle.dm_node.specs.Out.{Acts, Goes, Worn}
 use Rattle.dm_node.specs.Acts as node
+pub use Rattle.dm_node.specs.Wired.{AreReadBack}
 use Rattle.dm_world.specs.World.{WorldState, seat_of}
 
 -- what is out on a stream from machine a to machine c, and not acknowledged, is read as it was put
@@ -39,12 +39,6 @@ WiresRead wires = (a c k : ℕ) (bytes : List ℕ) → bytes_at (wires a c) k �
 pub record IsReadable (w : WorldState) : Type 0 where
   pub reads : WiresRead w.wires
   pub out : (m : ℕ) → NodeReads (w.nodes m)
-
--- the bytes of each packet that a machine gives are read as that packet
-abbrev pub AreReadBack : List Out → Type 0
-AreReadBack [] = ⊤
-AreReadBack (Says l ∷ outs) = AreReadBack outs
-AreReadBack (Sends p ∷ outs) = (packet_of (spelling p) ≡ Ok p) × AreReadBack outs
 
 -- what the machine that acts gives
 abbrev pub gave_some : Option Acts → List Out

@@ -8,7 +8,6 @@ mod end_messages;
 mod end_process;
 mod end_servers;
 mod quiet;
-mod speak;
 mod step;
 pub mod world;
 

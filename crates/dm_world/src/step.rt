@@ -1,5 +1,5 @@
 //! What a directive does.
-ghost use Rattle.std.specs.Prelude.{◌≡◌, ◌<◌, ◌≤◌, ◌+◌, ◌^◌, ◌∷◌, ℕ, IfOk, IfSome, IsOk, OnErr, OnOk, None, Ok, Some, [], false, length, option_map, true};
+ghost use Rattle.std.specs.Prelude.{◌≡◌, ◌<◌, ◌≤◌, ◌+◌, ◌^◌, ◌∷◌, IfOk, IfSome, IsOk, OnErr, OnOk, None, Ok, Some, [], false, length, option_map, true};
 ghost use Rattle.dm_link.specs.declared.Pid.{Pid as ThePid};
 ghost use Rattle.dm_onekernel.specs.Boot.{images_are_valid};
 ghost use Rattle.dm_onekernel.specs.declared.boot.Boot.{Boot as TheBoot};
@@ -10,24 +10,21 @@ ghost use Rattle.dm_wire.specs.Wire.{packets_on};
 ghost use Rattle.dm_kernel.specs.Carried.{FreezesWhole};
 ghost use Rattle.dm_kernel.specs.Lawful.{IsLawfulState};
 ghost use Rattle.dm_node.specs.Acts as node;
-ghost use Rattle.dm_node.specs.declared.out.Out.TheVariants as out;
 ghost use Rattle.dm_node.specs.May.{MayAct, MayArrivePacket, MayAskMove, MayCallOff, MayTurn};
 ghost use Rattle.dm_node.specs.Meets.{OrNoMemory};
-ghost use Rattle.dm_node.specs.Wired.{spoken};
+ghost use Rattle.dm_node.specs.Wired.{so_far};
 ghost use Rattle.dm_line.specs.declared.line.Line.TheVariants as line;
 ghost use Rattle.dm_world.specs.Local.{ActsAlone, acts_on};
 ghost use Rattle.dm_world.specs.May.{MayStep};
 ghost use Rattle.dm_world.specs.Meets.{ActedAt, AreNodes, IsWorld, TurnAnswers, ended_in, node_in, world_state};
-ghost use Rattle.dm_world.specs.Readable.{AreReadBack};
 ghost use Rattle.dm_world.specs.Stepped.{StepMeets};
 ghost use Rattle.dm_world.specs.World.{with_over, seat_of};
 
-use crate::speak::speak;
 use crate::world::World;
 use dm_line::line::Line;
 use dm_link::{MACHINES, Pid};
 use dm_memory::{NoMemory, insert, list_of, push};
-use dm_node::{Envelope, Node, Out, Stop};
+use dm_node::{Envelope, Node, Stop};
 use dm_onekernel::Boot;
 use dm_schedule::Step;
 use dm_wire::Wire;
@@ -82,10 +79,10 @@ impl World {
         ensures meets { StepMeets self.old self.new (directive.Turn m) result }
         ensures stopped { self.new.stopped ≡ self.old.stopped }
     {
-        let empty = emptied(self.alloc, &mut self.outs);
-        let outs = take_turn(empty, &mut self.nodes, &self.boot, m)?;
+        let mut lines = begun(self.alloc, &mut self.lines, Step::Turn(m))?;
+        take_turn(&mut self.nodes, &self.boot, m, &mut self.wires, &mut lines)?;
+        self.groups += 1;
         self.keep_over(m)?;
-        let lines = self.group(Step::Turn(m), outs)?;
         Ok(lines)
     }
 
@@ -141,9 +138,17 @@ impl World {
         ensures meets { StepMeets self.old self.new (directive.Migrate pid to) result }
         ensures stopped { self.new.stopped ≡ self.old.stopped }
     {
-        let empty = emptied(self.alloc, &mut self.outs);
-        let outs = ask_manager(empty, &mut self.nodes, &self.boot, seat, pid, to)?;
-        let lines = self.group(Step::Migrate { pid, to }, outs)?;
+        let mut lines = begun(self.alloc, &mut self.lines, Step::Migrate { pid, to })?;
+        ask_manager(
+            &mut self.nodes,
+            &self.boot,
+            seat,
+            pid,
+            to,
+            &mut self.wires,
+            &mut lines,
+        )?;
+        self.groups += 1;
         Ok(lines)
     }
 
@@ -155,9 +160,16 @@ impl World {
         ensures meets { StepMeets self.old self.new (directive.CallOff pid m) result }
         ensures stopped { self.new.stopped ≡ self.old.stopped }
     {
-        let empty = emptied(self.alloc, &mut self.outs);
-        let outs = call_off(empty, &mut self.nodes, &self.boot, pid, m)?;
-        let lines = self.group(Step::CallOff { pid, at: m }, outs)?;
+        let mut lines = begun(self.alloc, &mut self.lines, Step::CallOff { pid, at: m })?;
+        call_off(
+            &mut self.nodes,
+            &self.boot,
+            pid,
+            m,
+            &mut self.wires,
+            &mut lines,
+        )?;
+        self.groups += 1;
         Ok(lines)
     }
 
@@ -169,9 +181,9 @@ impl World {
         ensures meets { StepMeets self.old self.new (directive.Tick m) result }
         ensures stopped { self.new.stopped ≡ self.old.stopped }
     {
-        let empty = emptied(self.alloc, &mut self.outs);
-        let outs = send_again(empty, &self.boot, &self.nodes, m)?;
-        let lines = self.group(Step::Tick(m), outs)?;
+        let mut lines = begun(self.alloc, &mut self.lines, Step::Tick(m))?;
+        send_again(&self.boot, &self.nodes, m, &mut self.wires, &mut lines)?;
+        self.groups += 1;
         Ok(lines)
     }
 
@@ -198,10 +210,17 @@ impl World {
         ensures meets { StepMeets self.old self.new (directive.Deliver a b k) result }
         ensures stopped { self.new.stopped ≡ self.old.stopped }
     {
+        let mut lines = begun(self.alloc, &mut self.lines, Step::Deliver { a, b, k })?;
         self.wires.mark(a, b, k);
-        let empty = emptied(self.alloc, &mut self.outs);
-        let outs = receive(empty, &mut self.nodes, &self.boot, b, packet)?;
-        let lines = self.group(Step::Deliver { a, b, k }, outs)?;
+        receive(
+            &mut self.nodes,
+            &self.boot,
+            b,
+            packet,
+            &mut self.wires,
+            &mut lines,
+        )?;
+        self.groups += 1;
         Ok(lines)
     }
 
@@ -213,8 +232,11 @@ impl World {
         ensures meets { StepMeets self.old self.new (directive.Deliver a b k) result }
         ensures stopped { self.new.stopped ≡ self.old.stopped }
     {
-        let outs = nothing(self.alloc)?;
-        let lines = self.group(Step::Deliver { a, b, k }, outs)?;
+        let lines = list_of(
+            self.alloc,
+            [Line::Head(Step::Deliver { a, b, k }), Line::Nothing],
+        )?;
+        self.groups += 1;
         Ok(lines)
     }
 
@@ -224,54 +246,36 @@ impl World {
     {
         self.lines = lines;
     }
-
-    /// The group of a directive that comes to this: its head first. What it comes to is kept, for its memory.
-    fn group(&mut self, step: Step, outs: Vec<Out>) -> Result<Vec<Line>, NoMemory>
-        requires groups { self.old.groups < 2 ^ 127 }
-        ensures lines { IfOk result (λ lines. lines.items ≡ line.Head step ∷ (spoken (packets_on self.old.wires) outs.items).lines) }
-        ensures wires { OnOk result ((x y : ℕ) → packets_on self.new.wires x y ≡ (spoken (packets_on self.old.wires) outs.items).wires x y) }
-        ensures groups { OnOk result (self.new.groups ≡ self.old.groups + 1) }
-        ensures again { OnOk result (AreReadBack outs.items) }
-        ensures nodes { self.new.nodes ≡ self.old.nodes }
-        ensures boot { self.new.boot ≡ self.old.boot }
-        ensures ended { self.new.ended ≡ self.old.ended }
-        ensures stopped { self.new.stopped ≡ self.old.stopped }
-    {
-        let mut lines = emptied(self.alloc, &mut self.lines);
-        push(&mut lines, Line::Head(step))?;
-        let mut outs = outs;
-        speak(&mut self.wires, &mut outs, &mut lines)?;
-        self.outs = outs;
-        self.groups += 1;
-        Ok(lines)
-    }
 }
 
-/// An empty list, in the memory of the one that was kept.
-fn emptied<T: Drop>(alloc: Global, kept: &mut Vec<T>) -> Vec<T>
-    ensures { result.items ≡ [] }
+/// The lines of a group, so far its head alone, in the memory of lines that were kept.
+fn begun(alloc: Global, kept: &mut Vec<Line>, head: Step) -> Result<Vec<Line>, NoMemory>
+    ensures { IfOk result (λ lines. lines.items ≡ line.Head head ∷ []) }
 {
-    let mut list = mem::replace(kept, Vec::new(alloc));
-    list.clear();
-    list
+    let mut lines = mem::replace(kept, Vec::new(alloc));
+    lines.clear();
+    push(&mut lines, Line::Head(head))?;
+    Ok(lines)
 }
 
-/// Machine `m` takes a turn; what it gives, in a list that was empty.
-fn take_turn(empty: Vec<Out>, nodes: &mut [Node], boot: &Boot, m: u8) -> Result<Vec<Out>, Stop>
-    requires empty { empty.items ≡ [] }
+/// Machine `m` takes a turn: its packets go on the wires, and its lines come behind those that were said.
+fn take_turn(
+    nodes: &mut [Node],
+    boot: &Boot,
+    m: u8,
+    wires: &mut Wire,
+    lines: &mut Vec<Line>,
+) -> Result<(), Stop>
     requires within { m < length nodes.old }
     requires nodes { AreNodes nodes.old }
     requires may { MayTurn boot.now (node_in boot.now nodes.old m) }
     requires images { images_are_valid boot.now.images ≡ true }
     requires lawful { IsLawfulState (node_in boot.now nodes.old m).kernel }
-    ensures answers { TurnAnswers result boot.now nodes.old nodes.new m (node.turn boot.now (node_in boot.now nodes.old m)) }
+    ensures answers { TurnAnswers result boot.now nodes.old nodes.new m (so_far wires.old lines.old.items) (so_far wires.new lines.new.items)
+        (node.turn boot.now (node_in boot.now nodes.old m)) }
     ensures whole { OrNoMemory result (FreezesWhole (node_in boot.now nodes.old m).kernel (node_in boot.now nodes.old m).kernel.inbox) }
 {
-    let mut outs = empty;
-    match nodes[place_of(m)].turn(boot, &mut outs) {
-        Ok(()) => Ok(outs),
-        Err(stop) => Err(stop),
-    }
+    nodes[place_of(m)].turn(boot, wires, lines)
 }
 
 /// The place of a machine among all.
@@ -294,89 +298,79 @@ fn seat_of(nodes: &[Node]) -> Option<u8>
     None
 }
 
-/// Machine `m`, where the manager is, is asked to have a process or a server move; what it gives.
+/// Machine `m`, where the manager is, is asked to have a process or a server move. It speaks as in a turn.
 fn ask_manager(
-    empty: Vec<Out>,
     nodes: &mut [Node],
     boot: &Boot,
     m: u8,
     pid: Pid,
     to: u8,
-) -> Result<Vec<Out>, Stop>
-    requires empty { empty.items ≡ [] }
+    wires: &mut Wire,
+    lines: &mut Vec<Line>,
+) -> Result<(), Stop>
     requires within { m < length nodes.old }
     requires nodes { AreNodes nodes.old }
     requires may { MayAskMove (node_in boot.now nodes.old m) }
     requires to { to < MACHINES }
     requires lawful { IsLawfulState (node_in boot.now nodes.old m).kernel }
-    ensures { TurnAnswers result boot.now nodes.old nodes.new m (node.asks_move (node_in boot.now nodes.old m) pid to) }
+    ensures { TurnAnswers result boot.now nodes.old nodes.new m (so_far wires.old lines.old.items) (so_far wires.new lines.new.items)
+        (node.asks_move (node_in boot.now nodes.old m) pid to) }
 {
-    let mut outs = empty;
-    match nodes[place_of(m)].ask_move(pid, to, &mut outs) {
-        Ok(()) => Ok(outs),
-        Err(stop) => Err(stop),
-    }
+    nodes[place_of(m)].ask_move(pid, to, wires, lines)
 }
 
-/// Machine `m` calls the migration of a process off; what it gives, in a list that was empty.
+/// Machine `m` calls the migration of a process off. It speaks as in a turn.
 fn call_off(
-    empty: Vec<Out>,
     nodes: &mut [Node],
     boot: &Boot,
     pid: Pid,
     m: u8,
-) -> Result<Vec<Out>, Stop>
-    requires empty { empty.items ≡ [] }
+    wires: &mut Wire,
+    lines: &mut Vec<Line>,
+) -> Result<(), Stop>
     requires within { m < length nodes.old }
     requires nodes { AreNodes nodes.old }
     requires may { MayCallOff (node_in boot.now nodes.old m) pid }
     requires lawful { IsLawfulState (node_in boot.now nodes.old m).kernel }
-    ensures { TurnAnswers result boot.now nodes.old nodes.new m (node.calls_off (node_in boot.now nodes.old m) pid) }
+    ensures { TurnAnswers result boot.now nodes.old nodes.new m (so_far wires.old lines.old.items) (so_far wires.new lines.new.items)
+        (node.calls_off (node_in boot.now nodes.old m) pid) }
 {
-    let mut outs = empty;
-    match nodes[place_of(m)].call_off(pid, &mut outs) {
-        Ok(()) => Ok(outs),
-        Err(stop) => Err(stop),
-    }
+    nodes[place_of(m)].call_off(pid, wires, lines)
 }
 
-/// What machine `m` sends again.
-fn send_again(empty: Vec<Out>, boot: &Boot, nodes: &[Node], m: u8) -> Result<Vec<Out>, NoMemory>
-    requires empty { empty.items ≡ [] }
+/// Machine `m` sends again what is out and not acknowledged. It speaks as in a turn.
+fn send_again(
+    boot: &Boot,
+    nodes: &[Node],
+    m: u8,
+    wires: &mut Wire,
+    lines: &mut Vec<Line>,
+) -> Result<(), NoMemory>
     requires within { m < length nodes.now }
     requires nodes { AreNodes nodes.now }
     requires may { MayAct (node_in boot.now nodes.now m) }
-    ensures { IfOk result (λ outs. ActedAt boot.now nodes.now nodes.now m outs.items (node.tick (node_in boot.now nodes.now m))) }
+    ensures { OnOk result (ActedAt boot.now nodes.now nodes.now m (so_far wires.old lines.old.items) (so_far wires.new lines.new.items)
+        (node.tick (node_in boot.now nodes.now m))) }
 {
-    let mut outs = empty;
-    nodes[usize::from(m)].tick(&mut outs)?;
-    Ok(outs)
+    nodes[usize::from(m)].tick(wires, lines)
 }
 
-/// A packet comes to machine `m`; what it gives.
+/// A packet comes to machine `m`, which speaks as in a turn.
 fn receive(
-    empty: Vec<Out>,
     nodes: &mut [Node],
     boot: &Boot,
     m: u8,
     packet: Envelope,
-) -> Result<Vec<Out>, NoMemory>
-    requires empty { empty.items ≡ [] }
+    wires: &mut Wire,
+    lines: &mut Vec<Line>,
+) -> Result<(), NoMemory>
     requires within { m < length nodes.old }
     requires nodes { AreNodes nodes.old }
     requires may { MayArrivePacket (node_in boot.now nodes.old m) packet }
-    ensures { IfOk result (λ outs. ActedAt boot.now nodes.old nodes.new m outs.items (node.arrives_packet (node_in boot.now nodes.old m) packet)) }
+    ensures { OnOk result (ActedAt boot.now nodes.old nodes.new m (so_far wires.old lines.old.items) (so_far wires.new lines.new.items)
+        (node.arrives_packet (node_in boot.now nodes.old m) packet)) }
 {
-    let mut outs = empty;
-    nodes[usize::from(m)].arrive(packet, &mut outs)?;
-    Ok(outs)
-}
-
-/// What is said where there is no such packet.
-fn nothing(alloc: Global) -> Result<Vec<Out>, NoMemory>
-    ensures { IfOk result (λ outs. outs.items ≡ out.Says line.Nothing ∷ []) }
-{
-    list_of(alloc, [Out::Says(Line::Nothing)])
+    nodes[usize::from(m)].arrive(packet, wires, lines)
 }
 
 /// The packet with this number on the wire from `a` to `b`.

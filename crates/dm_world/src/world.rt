@@ -10,7 +10,7 @@ ghost use Rattle.dm_world.specs.World.{first_world};
 use dm_line::line::Line;
 use dm_link::{MACHINES, Pid};
 use dm_memory::{NoMemory, push};
-use dm_node::{Node, Out};
+use dm_node::Node;
 use dm_onekernel::{Boot, Why};
 use dm_wire::Wire;
 use std::alloc::Global;
@@ -26,8 +26,6 @@ pub struct World {
     pub(crate) wires: Wire,
     /// Why each process ended that has.
     pub(crate) ended: BTreeMap<Pid, Why>,
-    /// What the last machine that acted gave, kept for its memory.
-    pub(crate) outs: Vec<Out>,
     /// Lines that were printed, kept for their memory.
     pub(crate) lines: Vec<Line>,
     /// How many directives there were.
@@ -52,7 +50,6 @@ impl World {
             nodes,
             wires: Wire::new(alloc),
             ended: BTreeMap::new(alloc),
-            outs: Vec::new(alloc),
             lines: Vec::new(alloc),
             groups: 0,
             stopped: false,

@@ -2,10 +2,10 @@
 use Rattle.dm_mirror.proofs.Names.{◌≡◌, ℕ, ◌+◌, ◌<◌, ◌≤◌, ◌==◌, Bool, false, List, [], ◌∷◌, ◌++◌, length, map, refl, ap, ◌∙◌, sym, subst, inl, inr, ◌⊎◌, arith, ⊤, nat_le, if◌then◌else◌, Some, eq-eqb, Pid, Message, MsgId, IsLawfulMessage}
 use Rattle.dm_mirror.proofs.Names.{Boot, OneKernel, Line, Stage, Out, Spelled, goes_out, spelled, Point, after, moved, Spot, Inbox, Untaken, standing, Pair, worn_in, put_spot, PairsFit, Sane, Sayable, part_sane, machine_of, NodeState, acts}
 use Rattle.dm_mirror.proofs.Names.{routes, Acted, Acts, Goes, Worn, then_, Spoken, spoken, Placed, WorldState, History, StandsWith, AllRecords, nat_tests, Part}
-use Rattle.dm_node.proofs.Names.{behind}
+use Rattle.dm_node.proofs.Names.{behind, spoken_then}
+use Rattle.dm_node.proofs.Speaking.{spoken-append}
 use Rattle.dm_rule.specs.Parts as rule
 use Rattle.dm_mirror.proofs.Turning.{Route, First, Own, AllMayPut, Late, Nothing, Leaves, LateMay, LateTopic, MayPut, late_owns, late_parts, late_point, late_rule_parts, message_of, owns, part_of, rule_part_of}
-use Rattle.dm_mirror.proofs.Puts.{spoken-append, spoken_then}
 use Rattle.dm_mirror.proofs.Giving.{same_records}
 use Rattle.dm_mirror.proofs.Routing.{Ready, route_goes, worn_first, worn_past}
 use Rattle.dm_mirror.proofs.Route.Parts.{Next, count_here, count_off, next_of, all_may_on, late_may_on, same_end, end_fits, end_there}

@@ -5,16 +5,19 @@ ghost use Rattle.dm_packet.specs.Parts.{ReadsInto};
 ghost use Rattle.dm_packet.specs.Whats.{naming_of, read_as, read_what};
 
 use super::fields::{addr_at, byte_at, channel_at, machine_at, pid_at, run_at, u16_at, u32_at};
-use super::lists::{bytes_within_at, kept, links_at, three_links_at};
+use super::lists::{bytes_within_at, links_at};
 use super::parts::{
     asker_at, block_of, blocks_of_at, byte_at_most, outcome_at, piece_at, piece_from_at,
     u16_at_most, yes_or_no_at,
 };
-use crate::PacketError;
-use dm_message::{CHUNK, MOST_BODY, MessageKind, What};
+use crate::{DecodeError, PacketError};
+use dm_lists::Bounded;
+use dm_memory::Parcel;
+use dm_message::{Body, CHUNK, Enclosed, MOST_BODY, MessageKind, What};
+use std::alloc::Global;
 
 #[tactic(auto, unfolding(crate::specs::Whats::read_what))]
-fn user_at<'a>(bytes: &'a [u8], into: &mut What) -> Result<&'a [u8], PacketError>
+fn user_at<'a>(alloc: Global, bytes: &'a [u8], into: &mut What) -> Result<&'a [u8], DecodeError>
     ensures { ReadsInto result into.new (read_what kinds.User bytes.now) }
 {
     let (code, rest) = u32_at(bytes)?;
@@ -24,14 +27,14 @@ fn user_at<'a>(bytes: &'a [u8], into: &mut What) -> Result<&'a [u8], PacketError
     *into = What::User {
         code,
         channel,
-        body: kept(body),
-        links,
+        body: Body::from_slice(alloc, body)?,
+        links: Enclosed::from_slice(alloc, &links)?,
     };
     Ok(rest)
 }
 
 #[tactic(auto, unfolding(crate::specs::Whats::read_what))]
-fn read_at<'a>(bytes: &'a [u8], into: &mut What) -> Result<&'a [u8], PacketError>
+fn read_at<'a>(bytes: &'a [u8], into: &mut What) -> Result<&'a [u8], DecodeError>
     ensures { ReadsInto result into.new (read_what kinds.Read bytes.now) }
 {
     let (base, rest) = u32_at(bytes)?;
@@ -41,39 +44,44 @@ fn read_at<'a>(bytes: &'a [u8], into: &mut What) -> Result<&'a [u8], PacketError
 }
 
 #[tactic(auto, unfolding(crate::specs::Whats::read_what))]
-fn write_at<'a>(bytes: &'a [u8], into: &mut What) -> Result<&'a [u8], PacketError>
+fn write_at<'a>(alloc: Global, bytes: &'a [u8], into: &mut What) -> Result<&'a [u8], DecodeError>
     ensures { ReadsInto result into.new (read_what kinds.Write bytes.now) }
 {
     let (base, rest) = u32_at(bytes)?;
     let (piece, rest) = piece_at(rest, base)?;
     *into = What::Write {
         base,
-        bytes: kept(piece),
+        bytes: Body::from_slice(alloc, piece)?,
     };
     Ok(rest)
 }
 
 #[tactic(auto, unfolding(crate::specs::Whats::read_what))]
-fn block_at<'a>(bytes: &'a [u8], into: &mut What) -> Result<&'a [u8], PacketError>
+fn block_at<'a>(alloc: Global, bytes: &'a [u8], into: &mut What) -> Result<&'a [u8], DecodeError>
     ensures { ReadsInto result into.new (read_what kinds.Block bytes.now) }
 {
     let (bytes, rest) = bytes_within_at(bytes, 1, MOST_BODY as u16)?;
-    *into = What::Block { bytes: kept(bytes) };
+    *into = What::Block {
+        bytes: Body::from_slice(alloc, bytes)?,
+    };
     Ok(rest)
 }
 
 #[tactic(auto, unfolding(crate::specs::Whats::read_what))]
-fn create_at<'a>(bytes: &'a [u8], into: &mut What) -> Result<&'a [u8], PacketError>
+fn create_at<'a>(alloc: Global, bytes: &'a [u8], into: &mut What) -> Result<&'a [u8], DecodeError>
     ensures { ReadsInto result into.new (read_what kinds.Create bytes.now) }
 {
     let (image, rest) = u16_at(bytes)?;
-    let (links, rest) = three_links_at(rest)?;
-    *into = What::Create { image, links };
+    let (links, rest) = links_at(rest, 3)?;
+    *into = What::Create {
+        image,
+        links: Bounded::from_slice(alloc, &links)?,
+    };
     Ok(rest)
 }
 
 #[tactic(auto, unfolding(crate::specs::Whats::read_what))]
-fn ask_at<'a>(bytes: &'a [u8], into: &mut What) -> Result<&'a [u8], PacketError>
+fn ask_at<'a>(bytes: &'a [u8], into: &mut What) -> Result<&'a [u8], DecodeError>
     ensures { ReadsInto result into.new (read_what kinds.Ask bytes.now) }
 {
     let (pid, rest) = pid_at(bytes)?;
@@ -92,7 +100,7 @@ fn ask_at<'a>(bytes: &'a [u8], into: &mut What) -> Result<&'a [u8], PacketError>
 }
 
 #[tactic(auto, unfolding(crate::specs::Whats::read_what))]
-fn refuse_at<'a>(bytes: &'a [u8], into: &mut What) -> Result<&'a [u8], PacketError>
+fn refuse_at<'a>(bytes: &'a [u8], into: &mut What) -> Result<&'a [u8], DecodeError>
     ensures { ReadsInto result into.new (read_what kinds.Refuse bytes.now) }
 {
     let (pid, rest) = pid_at(bytes)?;
@@ -107,7 +115,7 @@ fn refuse_at<'a>(bytes: &'a [u8], into: &mut What) -> Result<&'a [u8], PacketErr
 }
 
 #[tactic(auto, unfolding(crate::specs::Whats::read_what))]
-fn pull_state_at<'a>(bytes: &'a [u8], into: &mut What) -> Result<&'a [u8], PacketError>
+fn pull_state_at<'a>(bytes: &'a [u8], into: &mut What) -> Result<&'a [u8], DecodeError>
     ensures { ReadsInto result into.new (read_what kinds.PullState bytes.now) }
 {
     let (pid, rest) = pid_at(bytes)?;
@@ -117,7 +125,7 @@ fn pull_state_at<'a>(bytes: &'a [u8], into: &mut What) -> Result<&'a [u8], Packe
 }
 
 #[tactic(auto, unfolding(crate::specs::Whats::read_what))]
-fn state_at<'a>(bytes: &'a [u8], into: &mut What) -> Result<&'a [u8], PacketError>
+fn state_at<'a>(alloc: Global, bytes: &'a [u8], into: &mut What) -> Result<&'a [u8], DecodeError>
     ensures { ReadsInto result into.new (read_what kinds.State bytes.now) }
 {
     let (pid, rest) = pid_at(bytes)?;
@@ -128,13 +136,13 @@ fn state_at<'a>(bytes: &'a [u8], into: &mut What) -> Result<&'a [u8], PacketErro
         pid,
         chunk,
         last,
-        bytes: kept(bytes),
+        bytes: Bounded::from_slice(alloc, bytes)?,
     };
     Ok(rest)
 }
 
 #[tactic(auto, unfolding(crate::specs::Whats::read_what))]
-fn pull_block_at<'a>(bytes: &'a [u8], into: &mut What) -> Result<&'a [u8], PacketError>
+fn pull_block_at<'a>(bytes: &'a [u8], into: &mut What) -> Result<&'a [u8], DecodeError>
     ensures { ReadsInto result into.new (read_what kinds.PullBlock bytes.now) }
 {
     let (pid, rest) = pid_at(bytes)?;
@@ -144,7 +152,7 @@ fn pull_block_at<'a>(bytes: &'a [u8], into: &mut What) -> Result<&'a [u8], Packe
 }
 
 #[tactic(auto, unfolding(crate::specs::Whats::read_what))]
-fn memory_at<'a>(bytes: &'a [u8], into: &mut What) -> Result<&'a [u8], PacketError>
+fn memory_at<'a>(alloc: Global, bytes: &'a [u8], into: &mut What) -> Result<&'a [u8], DecodeError>
     ensures { ReadsInto result into.new (read_what kinds.Memory bytes.now) }
 {
     let (pid, rest) = pid_at(bytes)?;
@@ -153,7 +161,7 @@ fn memory_at<'a>(bytes: &'a [u8], into: &mut What) -> Result<&'a [u8], PacketErr
     *into = What::Memory {
         pid,
         block,
-        bytes: block_of(bytes),
+        bytes: Parcel::new(alloc, block_of(bytes))?,
     };
     Ok(rest)
 }
@@ -169,7 +177,7 @@ enum Naming {
 }
 
 /// The name of a process, and nothing else.
-fn naming_at<'a>(naming: Naming, bytes: &'a [u8], into: &mut What) -> Result<&'a [u8], PacketError>
+fn naming_at<'a>(naming: Naming, bytes: &'a [u8], into: &mut What) -> Result<&'a [u8], DecodeError>
     ensures { ReadsInto result into.new (read_as pid (naming_of naming) bytes.now) }
 {
     let (pid, rest) = pid_at(bytes)?;
@@ -184,7 +192,7 @@ fn naming_at<'a>(naming: Naming, bytes: &'a [u8], into: &mut What) -> Result<&'a
 }
 
 #[tactic(auto, unfolding(crate::specs::Whats::read_what))]
-fn migrate_at<'a>(bytes: &'a [u8], into: &mut What) -> Result<&'a [u8], PacketError>
+fn migrate_at<'a>(bytes: &'a [u8], into: &mut What) -> Result<&'a [u8], DecodeError>
     ensures { ReadsInto result into.new (read_what kinds.Migrate bytes.now) }
 {
     let (machine, rest) = machine_at(bytes)?;
@@ -193,7 +201,7 @@ fn migrate_at<'a>(bytes: &'a [u8], into: &mut What) -> Result<&'a [u8], PacketEr
 }
 
 #[tactic(auto, unfolding(crate::specs::Whats::read_what))]
-fn move_at<'a>(bytes: &'a [u8], into: &mut What) -> Result<&'a [u8], PacketError>
+fn move_at<'a>(bytes: &'a [u8], into: &mut What) -> Result<&'a [u8], DecodeError>
     ensures { ReadsInto result into.new (read_what kinds.Move bytes.now) }
 {
     let (machine, rest) = machine_at(bytes)?;
@@ -202,7 +210,7 @@ fn move_at<'a>(bytes: &'a [u8], into: &mut What) -> Result<&'a [u8], PacketError
 }
 
 #[tactic(auto, unfolding(crate::specs::Whats::read_what))]
-fn update_at<'a>(bytes: &'a [u8], into: &mut What) -> Result<&'a [u8], PacketError>
+fn update_at<'a>(bytes: &'a [u8], into: &mut What) -> Result<&'a [u8], DecodeError>
     ensures { ReadsInto result into.new (read_what kinds.Update bytes.now) }
 {
     let (about, rest) = addr_at(bytes)?;
@@ -211,7 +219,7 @@ fn update_at<'a>(bytes: &'a [u8], into: &mut What) -> Result<&'a [u8], PacketErr
 }
 
 #[tactic(auto, unfolding(crate::specs::Whats::read_what))]
-fn moved_at<'a>(bytes: &'a [u8], into: &mut What) -> Result<&'a [u8], PacketError>
+fn moved_at<'a>(bytes: &'a [u8], into: &mut What) -> Result<&'a [u8], DecodeError>
     ensures { ReadsInto result into.new (read_what kinds.Moved bytes.now) }
 {
     let (outcome, rest) = outcome_at(bytes)?;
@@ -222,14 +230,15 @@ fn moved_at<'a>(bytes: &'a [u8], into: &mut What) -> Result<&'a [u8], PacketErro
 /// What a message of this kind carries, put where it is told.
 #[tactic(auto, unfolding(crate::specs::Whats::read_what))]
 pub fn what_at<'a>(
+    alloc: Global,
     kind: MessageKind,
     bytes: &'a [u8],
     into: &mut What,
-) -> Result<&'a [u8], PacketError>
+) -> Result<&'a [u8], DecodeError>
     ensures { ReadsInto result into.new (read_what kind bytes.now) }
 {
     match kind {
-        MessageKind::User => user_at(bytes, into),
+        MessageKind::User => user_at(alloc, bytes, into),
         MessageKind::Stop => {
             *into = What::Stop;
             Ok(bytes)
@@ -243,8 +252,8 @@ pub fn what_at<'a>(
             Ok(bytes)
         }
         MessageKind::Read => read_at(bytes, into),
-        MessageKind::Write => write_at(bytes, into),
-        MessageKind::Block => block_at(bytes, into),
+        MessageKind::Write => write_at(alloc, bytes, into),
+        MessageKind::Block => block_at(alloc, bytes, into),
         MessageKind::Written => {
             *into = What::Written;
             Ok(bytes)
@@ -253,7 +262,7 @@ pub fn what_at<'a>(
             *into = What::Gone;
             Ok(bytes)
         }
-        MessageKind::Create => create_at(bytes, into),
+        MessageKind::Create => create_at(alloc, bytes, into),
         MessageKind::Created => naming_at(Naming::Created, bytes, into),
         MessageKind::NoRoom => {
             *into = What::NoRoom;
@@ -264,9 +273,9 @@ pub fn what_at<'a>(
         MessageKind::Ask => ask_at(bytes, into),
         MessageKind::Refuse => refuse_at(bytes, into),
         MessageKind::PullState => pull_state_at(bytes, into),
-        MessageKind::State => state_at(bytes, into),
+        MessageKind::State => state_at(alloc, bytes, into),
         MessageKind::PullBlock => pull_block_at(bytes, into),
-        MessageKind::Memory => memory_at(bytes, into),
+        MessageKind::Memory => memory_at(alloc, bytes, into),
         MessageKind::AllTaken => naming_at(Naming::AllTaken, bytes, into),
         MessageKind::Restart => naming_at(Naming::Restart, bytes, into),
         MessageKind::Move => move_at(bytes, into),

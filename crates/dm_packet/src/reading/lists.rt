@@ -8,7 +8,10 @@ use super::fields::{byte_at, link_at, run_at, u16_at};
 use crate::PacketError;
 use arrayvec::ArrayVec;
 use dm_link::Link;
-use dm_message::{Enclosed, MOST_LINKS};
+use dm_message::MOST_LINKS;
+
+/// Links, before it is known where they are kept.
+type Links = ArrayVec<Link, MOST_LINKS>;
 
 /// At least so many bytes, at most so many, behind their number.
 pub fn bytes_within_at(bytes: &[u8], least: u16, most: u16) -> Result<(&[u8], &[u8]), PacketError>
@@ -22,24 +25,13 @@ pub fn bytes_within_at(bytes: &[u8], least: u16, most: u16) -> Result<(&[u8], &[
     run_at(rest, len as usize)
 }
 
-/// These bytes, kept where there is room for them.
-#[inline]
-pub fn kept<const N: usize>(bytes: &[u8]) -> ArrayVec<u8, N>
-    requires { length bytes.now ≤ N }
-    ensures { result.items ≡ bytes.now }
-{
-    let mut items = ArrayVec::new();
-    let _ = items.try_extend_from_slice(bytes);
-    items
-}
-
 /// So many links.
-fn link_run_at(bytes: &[u8], count: u8) -> Result<(Enclosed, &[u8]), PacketError>
+fn link_run_at(bytes: &[u8], count: u8) -> Result<(Links, &[u8]), PacketError>
     requires { count ≤ MOST_LINKS }
     ensures read { ReadsItems result (read_times link.read count bytes.now) }
     ensures count { IfOk result (λ x. length x.0.items ≡ count) }
 {
-    let mut links = Enclosed::new();
+    let mut links = Links::new();
     let mut rest = bytes;
     for _ in 0..count {
         let (link, after) = link_at(rest)?;
@@ -50,7 +42,7 @@ fn link_run_at(bytes: &[u8], count: u8) -> Result<(Enclosed, &[u8]), PacketError
 }
 
 /// At most so many links, behind their number.
-pub fn links_at(bytes: &[u8], most: u8) -> Result<(Enclosed, &[u8]), PacketError>
+pub fn links_at(bytes: &[u8], most: u8) -> Result<(Links, &[u8]), PacketError>
     requires { most ≤ MOST_LINKS }
     ensures read { ReadsItems result ((links most).read bytes.now) }
     ensures few { IfOk result (λ x. length x.0.items ≤ most) }
@@ -60,14 +52,4 @@ pub fn links_at(bytes: &[u8], most: u8) -> Result<(Enclosed, &[u8]), PacketError
         return Err(PacketError::Limit);
     }
     link_run_at(rest, count)
-}
-
-/// At most 3 links, behind their number.
-pub fn three_links_at(bytes: &[u8]) -> Result<(ArrayVec<Link, 3>, &[u8]), PacketError>
-    ensures { ReadsItems result ((links 3).read bytes.now) }
-{
-    let (found, rest) = links_at(bytes, 3)?;
-    let mut links = ArrayVec::new();
-    let _ = links.try_extend_from_slice(&found);
-    Ok((links, rest))
 }

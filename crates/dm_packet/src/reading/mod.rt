@@ -10,14 +10,15 @@ mod kinds;
 mod lists;
 pub mod parts;
 
-use crate::PacketError;
 use crate::front::{Head, Opened, Opening, PacketKind, VERSION};
+use crate::{DecodeError, PacketError};
 use dm_link::{Addr, Pid};
 use dm_lists::is_over;
 use dm_message::{Message, MsgId, What};
 use fields::{addr_at, byte_at, machine_at, pid_at, u32_at};
 use kinds::what_at;
 use parts::{kind_at, yes_or_no_at};
+use std::alloc::Global;
 
 fn id_at(bytes: &[u8]) -> Result<(MsgId, &[u8]), PacketError>
     ensures { Reads result (id.read bytes.now) }
@@ -103,17 +104,18 @@ pub fn room() -> Message
     }
 }
 
-/// The number of a message, which is put where it is told. Nothing stands behind it.
+/// The number of a message, which is put where it is told. Nothing stands behind it. It takes memory for the bytes and the links
+/// of the message alone.
 #[inline(never)]
 #[tactic(auto, unfolding(crate::specs::Packets::read_message))]
-pub fn numbered_at(bytes: &[u8], message: &mut Message) -> Result<u32, PacketError>
+pub fn numbered_at(alloc: Global, bytes: &[u8], message: &mut Message) -> Result<u32, DecodeError>
     ensures { ReadsNumbered result message.new (read_numbered bytes.now) }
 {
     let (seq, rest) = u32_at(bytes)?;
     let (head, rest) = head_at(rest)?;
-    let rest = what_at(head.kind, rest, &mut message.what)?;
+    let rest = what_at(alloc, head.kind, rest, &mut message.what)?;
     if !is_over(rest) {
-        return Err(PacketError::Trailing);
+        return Err(DecodeError::Bytes(PacketError::Trailing));
     }
     message.id = head.id;
     message.to = head.to;
@@ -133,7 +135,8 @@ fn ack_at(from: u8, to: u8, bytes: &[u8]) -> Result<Opened<'_>, PacketError>
     Ok(Opened::Ack { from, to, count })
 }
 
-/// The packet that the bytes spell, but for its number and message, if it has one, or the first rule that they break.
+/// The packet that the bytes spell, but for its number and message, if it has one, or the first rule that they break. It takes
+/// no memory.
 #[tactic(auto, unfolding(crate::specs::Packets::packet_of), using(crate::proofs::Parts::data_is_behind))]
 pub fn opened_at(bytes: &[u8]) -> Result<Opened<'_>, PacketError>
     ensures { Opens result (packet_of bytes.now) }

@@ -209,7 +209,7 @@ pub fn put_what(out: &mut Buffer, what: &What)
             bytes,
         } => put_state(out, *pid, *chunk, *last, bytes),
         What::PullBlock { pid, block } => put_pull_block(out, *pid, *block),
-        What::Memory { pid, block, bytes } => put_memory(out, *pid, *block, bytes),
+        What::Memory { pid, block, bytes } => put_memory(out, *pid, *block, bytes.get()),
         What::Moved { outcome } => put_outcome(out, *outcome),
     }
 }

@@ -1,5 +1,5 @@
-use Rattle.dm_world.proofs.Names.{sym, subst, Err, FreezesWhole, IsLawfulState, turn, ActsLawfully, MayTurn, AnswersSome, GaveSome, IfWorn, turns_lawfully, node_in}
-use Rattle.dm_world.proofs.Nodes.{acted_some, here_at, is_node_at, node_at, stopped}
+use Rattle.dm_world.proofs.Names.{sym, subst, FreezesWhole, IsLawfulState, turn, ActsLawfully, MayTurn, AnswersSome, OrNoMemory, turns_lawfully, node_in, so_far}
+use Rattle.dm_world.proofs.Nodes.{acted_some, here_at, is_node_at, node_at}
 use Rattle.dm_world.proofs.step.take_turn.Goals as goal
 
 pub turn-requires-clause-may : goal.turn-requires-clause-may
@@ -13,31 +13,21 @@ turn-requires-clause-lawful c =
 pub turn-requires-clause-streams : goal.turn-requires-clause-streams
 turn-requires-clause-streams c = (is_node_at c.args.nodes.now c.place_of.result c.args.m c.index-nodes-place_of.result c.place_of.ensures c.requires.within c.requires.nodes).streams
 
-pub returns-in-Ok-clause-answers : goal.returns-in-Ok-clause-answers
-returns-in-Ok-clause-answers c =
+pub returns-clause-answers : goal.returns-clause-answers
+returns-clause-answers c =
     let b = c.args.boot.now in
     let nodes = c.args.nodes.now in
     let n = node_in b nodes c.args.m in
+    let old = so_far c.args.wires.now c.args.lines.now.items in
+    let new = so_far c.turn.new.wires c.turn.new.lines.items in
     let same = node_at b nodes c.place_of.result c.args.m c.index-nodes-place_of.result c.place_of.ensures c.requires.within in
-    let gave = subst (λ s. GaveSome c.turn.new.self c.args.empty.items c.turn.new.outs.items (turn b s)) same c.in-Ok.ensures.answers in
-    acted_some b nodes c.place_of.result c.args.m c.turn.new.self c.args.empty.items c.turn.new.outs.items (turn b n) c.place_of.ensures c.requires.within c.requires.nodes c.requires.empty gave
+    acted_some c.turn.result b nodes c.place_of.result c.args.m c.turn.new.self old new (turn b n) c.place_of.ensures c.requires.within c.requires.nodes
+    (subst (λ s. AnswersSome c.turn.result c.turn.new.self old new (turn b s)) same c.turn.ensures.answers)
     (λ a e. subst (λ k. ActsLawfully k a) (here_at b nodes c.args.m c.index-nodes-place_of.result c.requires.within c.requires.nodes)
     (turns_lawfully b n a c.requires.images c.requires.may c.requires.lawful e))
 
-pub returns-in-Err-clause-answers : goal.returns-in-Err-clause-answers
-returns-in-Err-clause-answers c =
+pub returns-clause-whole : goal.returns-clause-whole
+returns-clause-whole c =
     let b = c.args.boot.now in
     let nodes = c.args.nodes.now in
-    let n = node_in b nodes c.args.m in
-    let same = node_at b nodes c.place_of.result c.args.m c.index-nodes-place_of.result c.place_of.ensures c.requires.within in
-    let ended = subst (λ s. AnswersSome (Err c.in-Err.stop) c.turn.new.self c.args.empty.items c.turn.new.outs.items (turn b s)) same c.in-Err.ensures.answers in
-    stopped c.in-Err.stop b nodes _ c.args.m c.turn.new.self c.args.empty.items c.turn.new.outs.items (turn b n) ended
-
-pub returns-in-Ok-clause-whole : goal.returns-in-Ok-clause-whole
-returns-in-Ok-clause-whole c =
-    subst (λ n. FreezesWhole n.kernel n.kernel.inbox) (node_at c.args.boot.now c.args.nodes.now c.place_of.result c.args.m c.index-nodes-place_of.result c.place_of.ensures c.requires.within) c.in-Ok.ensures.whole
-
-pub returns-in-Err-clause-whole : goal.returns-in-Err-clause-whole
-returns-in-Err-clause-whole c =
-    subst (λ n. IfWorn c.in-Err.stop (FreezesWhole n.kernel n.kernel.inbox)) (node_at c.args.boot.now c.args.nodes.now c.place_of.result c.args.m c.index-nodes-place_of.result c.place_of.ensures c.requires.within)
-    c.in-Err.ensures.whole
+    subst (λ n. OrNoMemory c.turn.result (FreezesWhole n.kernel n.kernel.inbox)) (node_at b nodes c.place_of.result c.args.m c.index-nodes-place_of.result c.place_of.ensures c.requires.within) c.turn.ensures.whole

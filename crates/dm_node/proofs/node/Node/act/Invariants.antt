@@ -1,4 +1,4 @@
-use Rattle.dm_node.proofs.Names.{List, Result, into_iter_items, All, IsLawfulPart, Node, Stop, Out, acts, MayAct, Answers, HasStreams, node_state}
+use Rattle.dm_node.proofs.Names.{Result, into_iter_items, All, IsLawfulPart, Node, Stop, Spoken, acts, MayAct, Answers, HasStreams, node_state, so_far}
 use Rattle.dm_node.proofs.node.Node.act.Given as goal
 
 -- what answers the parts that are left answers all
@@ -10,6 +10,6 @@ invariant-loop-part l =
       fit : All IsLawfulPart (into_iter_items l.part-iterator);
       streams : HasStreams l.self;
       may : MayAct (node_state l.self);
-      rest : (r : Result Unit Stop) (after : Node) (new : List Out) → Answers r after l.outs.items new (acts (node_state l.self) (into_iter_items l.part-iterator))
-          → Answers r after l.fn.outs.items new (acts (node_state l.fn.self) l.fn.parts.items);
+      rest : (r : Result Unit Stop) (after : Node) (new : Spoken) → Answers r after (so_far l.wires l.lines.items) new (acts (node_state l.self) (into_iter_items l.part-iterator))
+          → Answers r after (so_far l.fn.wires l.fn.lines.items) new (acts (node_state l.fn.self) l.fn.parts.items);
     }

@@ -9,4 +9,4 @@ returns-clause-state c =
     let b = c.args.boot.now in
     let k = c.in_ok-kernel.kernel in
     begun (kernels.kernel_state k) c.len.result c.in_ok-senders.senders.items c.in_ok-receivers.receivers.items b c.args.here
-    (kernel_is k (kernel.opened b c.args.here) c.in_ok-kernel.ensures) c.len.ensures c.in_ok-senders.ensures c.in_ok-receivers.ensures
+    (kernel_is k (kernel.opened b c.args.here) c.in_ok-kernel.ensures.state) c.len.ensures c.in_ok-senders.ensures c.in_ok-receivers.ensures

@@ -1,4 +1,4 @@
-use Rattle.dm_node.proofs.Names.{FreezesWhole, node_state}
+use Rattle.dm_node.proofs.Names.{FreezesWhole, node_state, so_far}
 use Rattle.dm_kernel.specs.Turn as kernel
 use Rattle.dm_node.proofs.Parts.{lawful_parts, or_no_memory, turn_answered}
 use Rattle.dm_node.proofs.Here.{turn_stays}
@@ -23,7 +23,7 @@ pub returns-in-Ok-clause-answers : goal.returns-in-Ok-clause-answers
 returns-in-Ok-clause-answers c =
     let n = node_state c.args.self.now in
     let gives = kernel.turn c.args.boot.now n.kernel in
-    turn_answered c.act.result c.act.new.self n c.turn.new.self c.in-Ok.parts.items gives c.args.outs.now.items c.act.new.outs.items
+    turn_answered c.act.result c.act.new.self n c.turn.new.self c.in-Ok.parts.items gives (so_far c.args.wires.now c.args.lines.now.items) (so_far c.act.new.wires c.act.new.lines.items)
     c.in-Ok.ensures.answers
     c.act.ensures
 

@@ -21,7 +21,7 @@ returns-then-drops-clause-steps c = λ b.
 pub returns-then-drops-clause-sound : goal.returns-then-drops-clause-sound
 returns-then-drops-clause-sound c = weaker c.args.self.now.labels (c.args.self.now.labels + 1) c.take_message.new.self (omega arith) (c.in_ok-message.ensures.sound c.args.self.now.labels c.requires.sound)
 
-pub returns-else-drops-clause-steps : goal.returns-else-drops-clause-steps
-returns-else-drops-clause-steps c = λ b.
+pub returns-clause-steps : goal.returns-clause-steps
+returns-clause-steps c = λ b.
     let t = one_kernel b c.take_message.new.self in
     drops_when (one_kernel b c.args.self.now) t c.args.id c.in_ok-message.message c.drops.result (c.in_ok-message.ensures.out b) (c.in_ok-message.ensures.gives b) c.drops.ensures ∙ ap (λ h. when h t) c.if-drops.false

@@ -157,8 +157,8 @@ land_piece-requires-in-Gone-clause-lawful c = c.in_ok-message.ensures.fit c.args
 pub returns-in-Gone-clause-sound : goal.returns-in-Gone-clause-sound
 returns-in-Gone-clause-sound c = subst (λ n. OnOk c.land_piece-in-Gone.result (IsSound (n + 1) c.land_piece-in-Gone.new.self)) (c.in_ok-process.ensures.stays.labels ∙ c.in_ok-message.ensures.stays.labels) c.land_piece-in-Gone.ensures.sound
 
-pub returns-in_default : goal.returns-in_default
-returns-in_default c =
+pub returns : goal.returns
+returns c =
     let m : Message = c.in_ok-message.message in
     let d = c.in_default in
     record {

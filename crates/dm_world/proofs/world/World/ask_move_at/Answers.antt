@@ -1,4 +1,4 @@
-use Rattle.dm_world.proofs.Names.{ended_in, rules, ap, sym, subst, ◌∙◌, ℕ, Option, AreReadBack, MeetsSome, asks_at, asks_move, length, arith, node_in, seat_of, world_state}
+use Rattle.dm_world.proofs.Names.{◌+◌, refl, ap, sym, subst, ℕ, Option, AreReadBack, MeetsSome, asks_at, asks_move, length, arith, ended_in, node_in, seat_of, so_far, with_items, world_state}
 use Rattle.dm_world.specs.Readable.{gave_at}
 use Rattle.dm_schedule.specs.declared.Step.TheVariants as step
 use Rattle.dm_world.proofs.Seats.{may_ask, seat_within}
@@ -9,20 +9,23 @@ use Rattle.dm_world.proofs.world.World.ask_move_at.Goals as goal
 pub returns-clause-meets : goal.returns-clause-meets
 returns-clause-meets c =
     let old = c.args.self.now in
-    let now = c.group.new.self in
     let ys = c.ask_manager.new.nodes in
-    let outs = c.in_ok-outs.outs.items in
+    let now = record old { nodes = with_items old.nodes ys; wires = c.ask_manager.new.wires; lines = c.begun.new.kept; groups = old.groups + 1 } in
+    let head = c.in_ok-lines.lines.items in
+    let said = c.ask_manager.new.lines.items in
+    let before = so_far old.wires head in
+    let after = so_far now.wires said in
     let e = step.Migrate c.args.pid c.args.to in
     let o = asks_move (node_in old.boot old.nodes.items c.args.seat) c.args.pid c.args.to in
-    let acts = rw c.deref_mut.ensures.value at c.in_ok-outs.ensures in
-    let are = ap (λ v. v.items) c.group.ensures.nodes ∙ written old.nodes ys (acted_size old.boot old.nodes.items ys c.args.seat outs o acts) in
+    let acts = rw c.deref_mut.ensures.value at c.in_ok-ask_manager.ensures in
+    let are = written old.nodes ys (acted_size old.boot old.nodes.items ys c.args.seat before after o acts) in
     record {
-      answers = subst (λ (q : Option ℕ). MeetsSome (world_state now) c.in_ok-lines.lines.items (asks_at (world_state old) e c.args.pid c.args.to q)) (sym c.requires.seat) (turn_stepped old now ys (ended_in old.ended) e c.args.seat outs c.in_ok-lines.lines.items o acts are
-          (record { lines = c.in_ok-lines.ensures.lines; wires = c.in_ok-lines.ensures.wires; ended = λ p. ap (λ kept. ended_in kept p) c.group.ensures.ended; groups = c.in_ok-lines.ensures.groups; boot = c.group.ensures.boot }));
-      world = turn_world old now ys c.args.seat outs o c.requires.world acts are c.group.ensures.boot;
-      again = subst (λ (q : Option ℕ). AreReadBack (gave_at (world_state old) c.args.pid c.args.to q)) (sym c.requires.seat) (turn_back old.boot old.nodes.items ys c.args.seat outs o acts c.in_ok-lines.ensures.again);
+      answers = subst (λ (q : Option ℕ). MeetsSome (world_state now) said (asks_at (world_state old) e c.args.pid c.args.to q)) (sym c.requires.seat)
+          (turn_stepped old now ys (ended_in old.ended) e c.args.seat head said o acts c.in_ok-lines.ensures are (record { ended = λ p. refl; groups = refl; boot = refl }));
+      world = turn_world old now ys c.args.seat before after o c.requires.world acts are refl;
+      again = subst (λ (q : Option ℕ). AreReadBack (gave_at (world_state old) c.args.pid c.args.to q)) (sym c.requires.seat) (turn_back old.boot old.nodes.items ys c.args.seat before after o acts);
       whole = tt;
-      boot = search rules;
+      boot = refl;
     }
 
 pub ask_manager-requires-clause-within : goal.ask_manager-requires-clause-within
