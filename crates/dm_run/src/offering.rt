@@ -11,7 +11,7 @@ use dm_ending::stop::Stop;
 use dm_line::end_line::EndLine;
 use dm_line::line::Line;
 use dm_outside::Sink;
-use dm_text::text::{write_ends, write_lines};
+use dm_text::text::{write_ends, write_over};
 
 /// Writes the whole text of these lines. The page holds it meanwhile.
 pub fn offer<K: Sink>(lines: &[Line], page: &mut Vec<u8>, out: &mut K) -> Result<(), Stop>
@@ -21,12 +21,13 @@ pub fn offer<K: Sink>(lines: &[Line], page: &mut Vec<u8>, out: &mut K) -> Result
     ensures last { StopsThere (K.last_failed out.new) result }
     ensures writes { K.faults out.old ≤ K.faults out.new }
 {
-    lines_fit(lines);
-    page.clear();
-    if let Err(no) = write_lines(lines, page) {
-        return Err(Stop::NoMemory(no));
+    match write_over(lines, page) {
+        Ok(end) => offer_bytes(&page.as_slice()[..end], out),
+        Err(no) => {
+            lines_fit(lines);
+            Err(Stop::NoMemory(no))
+        }
     }
-    offer_bytes(page.as_slice(), out)
 }
 
 /// Writes the whole text of these lines at the end. The page holds it meanwhile.

@@ -11,6 +11,8 @@ pub mod LinesBack
 pub mod Lists
 pub mod WordsBack
 pub mod Numbers
+pub mod Pages
+pub mod Pairs
 pub mod Pieces
 pub mod Spacing
 mod Worked

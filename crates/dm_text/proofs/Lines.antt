@@ -1,7 +1,7 @@
 -- The text of lists of lines.
 use Rattle.dm_text.proofs.Names.{◌≡◌, ℕ, ◌+◌, ◌<◌, List, [], ◌∷◌, ◌++◌, length, take, get_or, refl, ap, sym, ◌∙◌, append_assoc, append-nil, take_more, EndLine, Line, text, end_text, text_of_lines, text_of_ends}
 
-lines-one : (l : Line) → text_of_lines (l ∷ []) ≡ text l
+pub lines-one : (l : Line) → text_of_lines (l ∷ []) ≡ text l
 unfolding text_of_lines
 lines-one l = append-nil (text l)
 

@@ -75,17 +75,26 @@ read-decimal limit n l h =
 pub two_digits : (n : ℕ) → 10 ≤ n → n < 100 → decimal n ≡ (48 + n / 10) ∷ (48 + n % 10) ∷ []
 two_digits n ge lt = decimal_step n ge (omega arith) ∙ ap (λ ds. ds ++ (48 + n % 10) ∷ []) (decimal_digit (n / 10) (omega arith))
 
--- a number that is put digit by digit
-pub two_put : (old one both : List ℕ) (n : ℕ) → 10 ≤ n → n < 100 → one ≡ old ++ (48 + n / 10) ∷ [] → both ≡ one ++ (48 + n % 10) ∷ [] → both ≡ old ++ decimal n
-two_put old one both n ge lt e f =
-    f
-    ∙ ap (λ t. t ++ (48 + n % 10) ∷ []) e
-    ∙ append_assoc old ((48 + n / 10) ∷ []) ((48 + n % 10) ∷ [])
-    ∙ ap (λ ds. old ++ ds) (sym (two_digits n ge lt))
+-- a number of three digits
+three_digits : (n : ℕ) → 100 ≤ n → n < 1000 → decimal n ≡ (48 + n / 100) ∷ (48 + n % 100 / 10) ∷ (48 + n % 100 % 10) ∷ []
+three_digits n ge lt =
+    let a : n / 10 / 10 ≡ n / 100 = omega arith in
+    let b : n / 10 % 10 ≡ n % 100 / 10 = omega arith in
+    let d : n % 10 ≡ n % 100 % 10 = omega arith in
+    rw (decimal_step n (omega arith) (omega arith), two_digits (n / 10) (omega arith) (omega arith), a, b, ← d) refl
 
-pub more_put : (old front all : List ℕ) (n : ℕ) → 10 ≤ n → n < 2 ^ 64 → front ≡ old ++ decimal (n / 10) → all ≡ front ++ (48 + n % 10) ∷ [] → all ≡ old ++ decimal n
-more_put old front all n ge lt e f =
+-- a number that is put digit by digit
+pub two_put : (old one both : List ℕ) (n a b : ℕ) → a ≡ 48 + n / 10 → b ≡ 48 + n % 10 → one ≡ old ++ a ∷ [] → both ≡ one ++ b ∷ [] → both ≡ old ++ (48 + n / 10) ∷ (48 + n % 10) ∷ []
+two_put old one both n a b p q e f =
     f
-    ∙ ap (λ t. t ++ (48 + n % 10) ∷ []) e
-    ∙ append_assoc old (decimal (n / 10)) ((48 + n % 10) ∷ [])
-    ∙ ap (λ ds. old ++ ds) (sym (decimal_step n ge lt))
+    ∙ ap (λ t. t ++ b ∷ []) e
+    ∙ append_assoc old (a ∷ []) (b ∷ [])
+    ∙ ap (λ x. old ++ x ∷ b ∷ []) p
+    ∙ ap (λ y. old ++ (48 + n / 10) ∷ y ∷ []) q
+
+pub three_put : (old one all : List ℕ) (n : ℕ) → 100 ≤ n → n < 1000 → one ≡ old ++ (48 + n / 100) ∷ [] → all ≡ one ++ (48 + n % 100 / 10) ∷ (48 + n % 100 % 10) ∷ [] → all ≡ old ++ decimal n
+three_put old one all n ge lt e f =
+    f
+    ∙ ap (λ t. t ++ (48 + n % 100 / 10) ∷ (48 + n % 100 % 10) ∷ []) e
+    ∙ append_assoc old ((48 + n / 100) ∷ []) ((48 + n % 100 / 10) ∷ (48 + n % 100 % 10) ∷ [])
+    ∙ ap (λ ds. old ++ ds) (sym (three_digits n ge lt))

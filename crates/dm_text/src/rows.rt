@@ -1,5 +1,5 @@
 //! Lines by their shapes: a name, and so many words. Each has room before it is put.
-ghost use Rattle.std.specs.Prelude.{◌≡◌, ◌+◌, ◌≤◌, ◌∷◌, ◌++◌, [], codes, length, vec_capacity, vec_len};
+ghost use Rattle.std.specs.Prelude.{◌≡◌, ◌+◌, ◌≤◌, ◌∷◌, ◌++◌, [], codes, length, take};
 ghost use Rattle.std.specs.Fmt.{decimal};
 ghost use Rattle.dm_message.specs.Kinds.{word_of};
 ghost use Rattle.dm_message.specs.Outcomes.{code_of_outcome};
@@ -16,234 +16,303 @@ use dm_message::{MessageKind, MsgId, Outcome};
 use dm_onekernel::Reply;
 
 /// Puts a line of a name alone.
-pub(crate) fn put_alone<const N: usize>(into: &mut Vec<u8>, name: &[u8; N])
+#[inline(always)]
+pub(crate) fn put_alone<const N: usize>(room: &mut [u8], at: usize, name: &[u8; N]) -> usize
     requires short { N ≤ 16 }
-    requires room { vec_len into.old + LINE_ROOM ≤ vec_capacity into.old }
-    ensures { into.new.items ≡ into.old.items ++ spelled_line (name.now ∷ []) }
+    requires room { at + LINE_ROOM ≤ length room.old }
+    ensures text { take result room.new ≡ take at room.old ++ spelled_line (name.now ∷ []) }
+    ensures within { result ≤ length room.old }
 {
-    put_bytes(into, name);
-    end_line(into);
+    let at = put_bytes(room, at, name);
+    end_line(room, at)
 }
 
 /// Puts a line of a machine.
-pub(crate) fn put_machine<const N: usize>(into: &mut Vec<u8>, name: &[u8; N], m: u8)
+#[inline(always)]
+pub(crate) fn put_machine<const N: usize>(
+    room: &mut [u8],
+    at: usize,
+    name: &[u8; N],
+    m: u8,
+) -> usize
     requires short { N ≤ 16 }
-    requires room { vec_len into.old + LINE_ROOM ≤ vec_capacity into.old }
-    ensures { into.new.items ≡ into.old.items ++ spelled_line (name.now ∷ decimal m ∷ []) }
+    requires room { at + LINE_ROOM ≤ length room.old }
+    ensures text { take result room.new ≡ take at room.old ++ spelled_line (name.now ∷ decimal m ∷ []) }
+    ensures within { result ≤ length room.old }
 {
-    put_bytes(into, name);
-    put_spaced_number(into, u64::from(m));
-    end_line(into);
+    let at = put_bytes(room, at, name);
+    let at = put_spaced_number(room, at, u64::from(m));
+    end_line(room, at)
 }
 
 /// Puts a line of a process.
-pub(crate) fn put_process<const N: usize>(into: &mut Vec<u8>, name: &[u8; N], pid: Pid)
+#[inline(always)]
+pub(crate) fn put_process<const N: usize>(
+    room: &mut [u8],
+    at: usize,
+    name: &[u8; N],
+    pid: Pid,
+) -> usize
     requires short { N ≤ 16 }
-    requires room { vec_len into.old + LINE_ROOM ≤ vec_capacity into.old }
-    ensures { into.new.items ≡ into.old.items ++ spelled_line (name.now ∷ pid_word pid ∷ []) }
+    requires room { at + LINE_ROOM ≤ length room.old }
+    ensures text { take result room.new ≡ take at room.old ++ spelled_line (name.now ∷ pid_word pid ∷ []) }
+    ensures within { result ≤ length room.old }
 {
-    put_bytes(into, name);
-    put_spaced_pid(into, pid);
-    end_line(into);
+    let at = put_bytes(room, at, name);
+    let at = put_spaced_pid(room, at, pid);
+    end_line(room, at)
 }
 
 /// Puts a line of a message.
-pub(crate) fn put_message<const N: usize>(into: &mut Vec<u8>, name: &[u8; N], id: MsgId)
+#[inline(always)]
+pub(crate) fn put_message<const N: usize>(
+    room: &mut [u8],
+    at: usize,
+    name: &[u8; N],
+    id: MsgId,
+) -> usize
     requires short { N ≤ 16 }
-    requires room { vec_len into.old + LINE_ROOM ≤ vec_capacity into.old }
-    ensures { into.new.items ≡ into.old.items ++ spelled_line (name.now ∷ id_word id ∷ []) }
+    requires room { at + LINE_ROOM ≤ length room.old }
+    ensures text { take result room.new ≡ take at room.old ++ spelled_line (name.now ∷ id_word id ∷ []) }
+    ensures within { result ≤ length room.old }
 {
-    put_bytes(into, name);
-    put_spaced_id(into, id);
-    end_line(into);
+    let at = put_bytes(room, at, name);
+    let at = put_spaced_id(room, at, id);
+    end_line(room, at)
 }
 
 /// Puts a line of a process and a number.
+#[inline(always)]
 pub(crate) fn put_process_number<const N: usize>(
-    into: &mut Vec<u8>,
+    room: &mut [u8],
+    at: usize,
     name: &[u8; N],
     pid: Pid,
     n: u32,
-)
+) -> usize
     requires short { N ≤ 16 }
-    requires room { vec_len into.old + LINE_ROOM ≤ vec_capacity into.old }
-    ensures { into.new.items ≡ into.old.items ++ spelled_line (name.now ∷ pid_word pid ∷ decimal n ∷ []) }
+    requires room { at + LINE_ROOM ≤ length room.old }
+    ensures text { take result room.new ≡ take at room.old ++ spelled_line (name.now ∷ pid_word pid ∷ decimal n ∷ []) }
+    ensures within { result ≤ length room.old }
 {
-    put_bytes(into, name);
-    put_spaced_pid(into, pid);
-    put_spaced_number(into, u64::from(n));
-    end_line(into);
+    let at = put_bytes(room, at, name);
+    let at = put_spaced_pid(room, at, pid);
+    let at = put_spaced_number(room, at, u64::from(n));
+    end_line(room, at)
 }
 
 /// Puts a line of a process and a message.
+#[inline(always)]
 pub(crate) fn put_process_message<const N: usize>(
-    into: &mut Vec<u8>,
+    room: &mut [u8],
+    at: usize,
     name: &[u8; N],
     pid: Pid,
     id: MsgId,
-)
+) -> usize
     requires short { N ≤ 16 }
-    requires room { vec_len into.old + LINE_ROOM ≤ vec_capacity into.old }
-    ensures { into.new.items ≡ into.old.items ++ spelled_line (name.now ∷ pid_word pid ∷ id_word id ∷ []) }
+    requires room { at + LINE_ROOM ≤ length room.old }
+    ensures text { take result room.new ≡ take at room.old ++ spelled_line (name.now ∷ pid_word pid ∷ id_word id ∷ []) }
+    ensures within { result ≤ length room.old }
 {
-    put_bytes(into, name);
-    put_spaced_pid(into, pid);
-    put_spaced_id(into, id);
-    end_line(into);
+    let at = put_bytes(room, at, name);
+    let at = put_spaced_pid(room, at, pid);
+    let at = put_spaced_id(room, at, id);
+    end_line(room, at)
 }
 
 /// Puts a line of a message and a number.
+#[inline(always)]
 pub(crate) fn put_message_number<const N: usize>(
-    into: &mut Vec<u8>,
+    room: &mut [u8],
+    at: usize,
     name: &[u8; N],
     id: MsgId,
     n: u32,
-)
+) -> usize
     requires short { N ≤ 16 }
-    requires room { vec_len into.old + LINE_ROOM ≤ vec_capacity into.old }
-    ensures { into.new.items ≡ into.old.items ++ spelled_line (name.now ∷ id_word id ∷ decimal n ∷ []) }
+    requires room { at + LINE_ROOM ≤ length room.old }
+    ensures text { take result room.new ≡ take at room.old ++ spelled_line (name.now ∷ id_word id ∷ decimal n ∷ []) }
+    ensures within { result ≤ length room.old }
 {
-    put_bytes(into, name);
-    put_spaced_id(into, id);
-    put_spaced_number(into, u64::from(n));
-    end_line(into);
+    let at = put_bytes(room, at, name);
+    let at = put_spaced_id(room, at, id);
+    let at = put_spaced_number(room, at, u64::from(n));
+    end_line(room, at)
 }
 
 /// Puts a line of a machine and a number.
-pub(crate) fn put_machine_number<const N: usize>(into: &mut Vec<u8>, name: &[u8; N], m: u8, n: u32)
+#[inline(always)]
+pub(crate) fn put_machine_number<const N: usize>(
+    room: &mut [u8],
+    at: usize,
+    name: &[u8; N],
+    m: u8,
+    n: u32,
+) -> usize
     requires short { N ≤ 16 }
-    requires room { vec_len into.old + LINE_ROOM ≤ vec_capacity into.old }
-    ensures { into.new.items ≡ into.old.items ++ spelled_line (name.now ∷ decimal m ∷ decimal n ∷ []) }
+    requires room { at + LINE_ROOM ≤ length room.old }
+    ensures text { take result room.new ≡ take at room.old ++ spelled_line (name.now ∷ decimal m ∷ decimal n ∷ []) }
+    ensures within { result ≤ length room.old }
 {
-    put_bytes(into, name);
-    put_spaced_number(into, u64::from(m));
-    put_spaced_number(into, u64::from(n));
-    end_line(into);
+    let at = put_bytes(room, at, name);
+    let at = put_spaced_number(room, at, u64::from(m));
+    let at = put_spaced_number(room, at, u64::from(n));
+    end_line(room, at)
 }
 
 /// Puts a line of two machines and a number.
+#[inline(always)]
 pub(crate) fn put_pair_number<const N: usize>(
-    into: &mut Vec<u8>,
+    room: &mut [u8],
+    at: usize,
     name: &[u8; N],
     a: u8,
     b: u8,
     n: u64,
-)
+) -> usize
     requires short { N ≤ 16 }
-    requires room { vec_len into.old + LINE_ROOM ≤ vec_capacity into.old }
-    ensures { into.new.items ≡ into.old.items ++ spelled_line (name.now ∷ decimal a ∷ decimal b ∷ decimal n ∷ []) }
+    requires room { at + LINE_ROOM ≤ length room.old }
+    ensures text { take result room.new ≡ take at room.old ++ spelled_line (name.now ∷ decimal a ∷ decimal b ∷ decimal n ∷ []) }
+    ensures within { result ≤ length room.old }
 {
-    put_bytes(into, name);
-    put_spaced_pair(into, a, b);
-    put_spaced_number(into, n);
-    end_line(into);
+    let at = put_bytes(room, at, name);
+    let at = put_spaced_pair(room, at, a, b);
+    let at = put_spaced_number(room, at, n);
+    end_line(room, at)
 }
 
 /// Puts a line of a process and what is free.
+#[inline(always)]
 pub(crate) fn put_process_room<const N: usize>(
-    into: &mut Vec<u8>,
+    room: &mut [u8],
+    at: usize,
     name: &[u8; N],
     pid: Pid,
     slots: u8,
     blocks: u16,
-)
+) -> usize
     requires short { N ≤ 16 }
-    requires room { vec_len into.old + LINE_ROOM ≤ vec_capacity into.old }
-    ensures { into.new.items ≡ into.old.items ++ spelled_line (name.now ∷ pid_word pid ∷ decimal slots ∷ decimal blocks ∷ []) }
+    requires room { at + LINE_ROOM ≤ length room.old }
+    ensures text { take result room.new ≡ take at room.old ++ spelled_line (name.now ∷ pid_word pid ∷ decimal slots ∷ decimal blocks ∷ []) }
+    ensures within { result ≤ length room.old }
 {
-    put_bytes(into, name);
-    put_spaced_pid(into, pid);
-    put_spaced_number(into, u64::from(slots));
-    put_spaced_number(into, u64::from(blocks));
-    end_line(into);
+    let at = put_bytes(room, at, name);
+    let at = put_spaced_pid(room, at, pid);
+    let at = put_spaced_number(room, at, u64::from(slots));
+    let at = put_spaced_number(room, at, u64::from(blocks));
+    end_line(room, at)
 }
 
 /// Puts a line of a message and what is free.
+#[inline(always)]
 pub(crate) fn put_message_room<const N: usize>(
-    into: &mut Vec<u8>,
+    room: &mut [u8],
+    at: usize,
     name: &[u8; N],
     id: MsgId,
     slots: u8,
     blocks: u16,
-)
+) -> usize
     requires short { N ≤ 16 }
-    requires room { vec_len into.old + LINE_ROOM ≤ vec_capacity into.old }
-    ensures { into.new.items ≡ into.old.items ++ spelled_line (name.now ∷ id_word id ∷ decimal slots ∷ decimal blocks ∷ []) }
+    requires room { at + LINE_ROOM ≤ length room.old }
+    ensures text { take result room.new ≡ take at room.old ++ spelled_line (name.now ∷ id_word id ∷ decimal slots ∷ decimal blocks ∷ []) }
+    ensures within { result ≤ length room.old }
 {
-    put_bytes(into, name);
-    put_spaced_id(into, id);
-    put_spaced_number(into, u64::from(slots));
-    put_spaced_number(into, u64::from(blocks));
-    end_line(into);
+    let at = put_bytes(room, at, name);
+    let at = put_spaced_id(room, at, id);
+    let at = put_spaced_number(room, at, u64::from(slots));
+    let at = put_spaced_number(room, at, u64::from(blocks));
+    end_line(room, at)
 }
 
 /// Puts the line of a call.
-pub(crate) fn put_call(into: &mut Vec<u8>, pid: Pid, n: u8, reply: Reply)
-    requires { vec_len into.old + LINE_ROOM ≤ vec_capacity into.old }
-    ensures { into.new.items ≡ into.old.items ++ spelled_line (codes "call" ∷ pid_word pid ∷ decimal n ∷ decimal (reply_code reply) ∷ []) }
+#[inline(always)]
+pub(crate) fn put_call(room: &mut [u8], at: usize, pid: Pid, n: u8, reply: Reply) -> usize
+    requires { at + LINE_ROOM ≤ length room.old }
+    ensures text { take result room.new ≡ take at room.old ++ spelled_line (codes "call" ∷ pid_word pid ∷ decimal n ∷ decimal (reply_code reply) ∷ []) }
+    ensures within { result ≤ length room.old }
 {
-    put_bytes(into, b"call");
-    put_spaced_pid(into, pid);
-    put_spaced_number(into, u64::from(n));
-    put_spaced_number(into, u64::from(reply.code()));
-    end_line(into);
+    let at = put_bytes(room, at, b"call");
+    let at = put_spaced_pid(room, at, pid);
+    let at = put_spaced_number(room, at, u64::from(n));
+    let at = put_spaced_number(room, at, u64::from(reply.code()));
+    end_line(room, at)
 }
 
 /// Puts the line of a refused receive.
-pub(crate) fn put_refuse(into: &mut Vec<u8>, pid: Pid, id: MsgId, reply: Reply)
-    requires { vec_len into.old + LINE_ROOM ≤ vec_capacity into.old }
-    ensures { into.new.items ≡ into.old.items ++ spelled_line (codes "refuse" ∷ pid_word pid ∷ id_word id ∷ decimal (reply_code reply) ∷ []) }
+#[inline(always)]
+pub(crate) fn put_refuse(room: &mut [u8], at: usize, pid: Pid, id: MsgId, reply: Reply) -> usize
+    requires { at + LINE_ROOM ≤ length room.old }
+    ensures text { take result room.new ≡ take at room.old ++ spelled_line (codes "refuse" ∷ pid_word pid ∷ id_word id ∷ decimal (reply_code reply) ∷ []) }
+    ensures within { result ≤ length room.old }
 {
-    put_bytes(into, b"refuse");
-    put_spaced_pid(into, pid);
-    put_spaced_id(into, id);
-    put_spaced_number(into, u64::from(reply.code()));
-    end_line(into);
+    let at = put_bytes(room, at, b"refuse");
+    let at = put_spaced_pid(room, at, pid);
+    let at = put_spaced_id(room, at, id);
+    let at = put_spaced_number(room, at, u64::from(reply.code()));
+    end_line(room, at)
 }
 
 /// Puts the line of a process that was made.
-pub(crate) fn put_created(into: &mut Vec<u8>, id: MsgId, pid: Pid)
-    requires { vec_len into.old + LINE_ROOM ≤ vec_capacity into.old }
-    ensures { into.new.items ≡ into.old.items ++ spelled_line (codes "created" ∷ id_word id ∷ pid_word pid ∷ []) }
+#[inline(always)]
+pub(crate) fn put_created(room: &mut [u8], at: usize, id: MsgId, pid: Pid) -> usize
+    requires { at + LINE_ROOM ≤ length room.old }
+    ensures text { take result room.new ≡ take at room.old ++ spelled_line (codes "created" ∷ id_word id ∷ pid_word pid ∷ []) }
+    ensures within { result ≤ length room.old }
 {
-    put_bytes(into, b"created");
-    put_spaced_id(into, id);
-    put_spaced_pid(into, pid);
-    end_line(into);
+    let at = put_bytes(room, at, b"created");
+    let at = put_spaced_id(room, at, id);
+    let at = put_spaced_pid(room, at, pid);
+    end_line(room, at)
 }
 
 /// Puts the line of a request to move that is answered.
-pub(crate) fn put_answered(into: &mut Vec<u8>, id: MsgId, outcome: Outcome)
-    requires { vec_len into.old + LINE_ROOM ≤ vec_capacity into.old }
-    ensures { into.new.items ≡ into.old.items ++ spelled_line (codes "answered" ∷ id_word id ∷ decimal (code_of_outcome outcome) ∷ []) }
+#[inline(always)]
+pub(crate) fn put_answered(room: &mut [u8], at: usize, id: MsgId, outcome: Outcome) -> usize
+    requires { at + LINE_ROOM ≤ length room.old }
+    ensures text { take result room.new ≡ take at room.old ++ spelled_line (codes "answered" ∷ id_word id ∷ decimal (code_of_outcome outcome) ∷ []) }
+    ensures within { result ≤ length room.old }
 {
-    put_bytes(into, b"answered");
-    put_spaced_id(into, id);
-    put_spaced_number(into, u64::from(outcome.code()));
-    end_line(into);
+    let at = put_bytes(room, at, b"answered");
+    let at = put_spaced_id(room, at, id);
+    let at = put_spaced_number(room, at, u64::from(outcome.code()));
+    end_line(room, at)
 }
 
 /// Puts the line of a message that is routed.
-pub(crate) fn put_routed(into: &mut Vec<u8>, a: u8, b: u8, id: MsgId, kind: MessageKind, pid: Pid)
-    requires { vec_len into.old + LINE_ROOM ≤ vec_capacity into.old }
-    ensures { into.new.items ≡ into.old.items ++ spelled_line
+#[inline(always)]
+pub(crate) fn put_routed(
+    room: &mut [u8],
+    at: usize,
+    a: u8,
+    b: u8,
+    id: MsgId,
+    kind: MessageKind,
+    pid: Pid,
+) -> usize
+    requires { at + LINE_ROOM ≤ length room.old }
+    ensures text { take result room.new ≡ take at room.old ++ spelled_line
         (codes "put" ∷ decimal a ∷ decimal b ∷ id_word id ∷ word_of kind ∷ pid_word pid ∷ []) }
+    ensures within { result ≤ length room.old }
 {
-    put_bytes(into, b"put");
-    put_spaced_pair(into, a, b);
-    put_spaced_id(into, id);
-    put_spaced_word(into, kind.word());
-    put_spaced_pid(into, pid);
-    end_line(into);
+    let at = put_bytes(room, at, b"put");
+    let at = put_spaced_pair(room, at, a, b);
+    let at = put_spaced_id(room, at, id);
+    let at = put_spaced_word(room, at, kind.word());
+    let at = put_spaced_pid(room, at, pid);
+    end_line(room, at)
 }
 
 /// Puts the line of step 6 of a migration.
-pub(crate) fn put_sent_on(into: &mut Vec<u8>, pid: Pid, n: u32)
-    requires { vec_len into.old + LINE_ROOM ≤ vec_capacity into.old }
-    ensures { into.new.items ≡ into.old.items ++ spelled_line (codes "step" ∷ codes "6" ∷ pid_word pid ∷ decimal n ∷ []) }
+#[inline(always)]
+pub(crate) fn put_sent_on(room: &mut [u8], at: usize, pid: Pid, n: u32) -> usize
+    requires { at + LINE_ROOM ≤ length room.old }
+    ensures text { take result room.new ≡ take at room.old ++ spelled_line (codes "step" ∷ codes "6" ∷ pid_word pid ∷ decimal n ∷ []) }
+    ensures within { result ≤ length room.old }
 {
-    put_bytes(into, b"step 6");
-    put_spaced_pid(into, pid);
-    put_spaced_number(into, u64::from(n));
-    end_line(into);
+    let at = put_bytes(room, at, b"step 6");
+    let at = put_spaced_pid(room, at, pid);
+    let at = put_spaced_number(room, at, u64::from(n));
+    end_line(room, at)
 }

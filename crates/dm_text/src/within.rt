@@ -1,5 +1,6 @@
-//! Writing within the room that a text has already: nothing here takes memory, so nothing here can fail.
-ghost use Rattle.std.specs.Prelude.{◌≡◌, [], ◌+◌, ◌<◌, ◌≤◌, ◌∷◌, ◌++◌, OnOk, codes, length, vec_capacity, vec_len};
+//! Writing within the room that there is: only making room takes memory, so nothing else here can fail.
+//! What is written ends at a place of the room; each function is told that place, and says where it ends then.
+ghost use Rattle.std.specs.Prelude.{◌≡◌, [], ◌+◌, ◌/◌, ◌%◌, ◌<◌, ◌≤◌, ◌∷◌, ◌++◌, OnOk, codes, length, take, vec_len};
 ghost use Rattle.std.specs.Fmt.{decimal};
 ghost use Rattle.dm_text.specs.Words.{id_word, pid_word};
 
@@ -11,110 +12,128 @@ use itoa::Buffer;
 /// The room for a line of a group, in bytes: no line is longer.
 pub(crate) const LINE_ROOM: usize = 256;
 
-/// Makes room for a line of a group.
+/// Makes room for a line of a group behind a place of a page.
 #[inline]
-pub(crate) fn make_room(into: &mut Vec<u8>) -> Result<(), NoMemory>
-    ensures room { OnOk result (vec_len into.new + LINE_ROOM ≤ vec_capacity into.new) }
-    ensures items { into.new.items ≡ into.old.items }
+pub(crate) fn make_room(page: &mut Vec<u8>, at: usize) -> Result<(), NoMemory>
+    requires { at ≤ vec_len page.old }
+    ensures room { OnOk result (at + LINE_ROOM ≤ vec_len page.new) }
+    ensures text { take at page.new.items ≡ take at page.old.items }
+    ensures within { at ≤ vec_len page.new }
 {
-    if into.capacity() - into.len() >= LINE_ROOM {
+    if page.len() - at >= LINE_ROOM {
         return Ok(());
     }
-    grow(into)
+    grow(page)
 }
 
-/// Makes room for a line of a group, where there isn't enough.
+/// Makes the page longer by the room for a line of a group.
 #[inline(never)]
-fn grow(into: &mut Vec<u8>) -> Result<(), NoMemory>
-    ensures room { OnOk result (vec_len into.new + LINE_ROOM ≤ vec_capacity into.new) }
-    ensures items { into.new.items ≡ into.old.items }
+#[cold]
+fn grow(page: &mut Vec<u8>) -> Result<(), NoMemory>
+    ensures room { OnOk result (vec_len page.new ≡ vec_len page.old + LINE_ROOM) }
+    ensures text { take (vec_len page.old) page.new.items ≡ page.old.items }
+    ensures longer { vec_len page.old ≤ vec_len page.new }
 {
-    let len = into.len();
-    append_zeros(into, LINE_ROOM as u32)?;
-    into.truncate(len);
-    Ok(())
+    append_zeros(page, LINE_ROOM as u32)
+}
+
+/// Puts a byte.
+#[inline(always)]
+fn put_byte(room: &mut [u8], at: usize, byte: u8) -> usize
+    requires { at < length room.old }
+    ensures text { take result room.new ≡ take at room.old ++ byte ∷ [] }
+    ensures at { result ≡ at + 1 }
+{
+    room[at] = byte;
+    at + 1
 }
 
 /// Puts a few bytes.
-#[inline]
-pub(crate) fn put_bytes(into: &mut Vec<u8>, bytes: &[u8])
-    requires { vec_len into.old + length bytes.now ≤ vec_capacity into.old }
-    ensures items { into.new.items ≡ into.old.items ++ bytes.now }
-    ensures len { vec_len into.new ≡ vec_len into.old + length bytes.now }
-    ensures capacity { vec_capacity into.new ≡ vec_capacity into.old }
+#[inline(always)]
+pub(crate) fn put_bytes(room: &mut [u8], at: usize, bytes: &[u8]) -> usize
+    requires { at + length bytes.now ≤ length room.old }
+    ensures text { take result room.new ≡ take at room.old ++ bytes.now }
+    ensures at { result ≡ at + length bytes.now }
 {
+    let mut end = at;
     for byte in bytes {
-        into.push_reserved(*byte);
+        end = put_byte(room, end, *byte);
     }
+    end
 }
 
-/// Puts a number of two digits.
-#[inline]
-fn put_two_digits(into: &mut Vec<u8>, n: u8)
-    requires digits { (10 ≤ n) × (n < 100) }
-    requires room { vec_len into.old + 2 ≤ vec_capacity into.old }
-    ensures items { into.new.items ≡ into.old.items ++ decimal n }
-    ensures len { vec_len into.new ≡ vec_len into.old + 2 }
-    ensures capacity { vec_capacity into.new ≡ vec_capacity into.old }
-{
-    into.push_reserved(b'0' + n / 10);
-    into.push_reserved(b'0' + n % 10);
-}
+/// The two digits of each number below 100.
+static PAIRS: [u8; 200] =
+    *b"00010203040506070809101112131415161718192021222324252627282930313233343536373839404142434445464748495051525354555657585960616263646566676869707172737475767778798081828384858687888990919293949596979899";
 
-/// Puts a number of three digits.
-#[inline]
-fn put_three_digits(into: &mut Vec<u8>, n: u16)
-    requires digits { (100 ≤ n) × (n < 1000) }
-    requires room { vec_len into.old + 3 ≤ vec_capacity into.old }
-    ensures items { into.new.items ≡ into.old.items ++ decimal n }
-    ensures len { vec_len into.new ≡ vec_len into.old + 3 }
-    ensures capacity { vec_capacity into.new ≡ vec_capacity into.old }
+/// Puts the two digits of a number below 100.
+#[inline(always)]
+fn put_two_digits(room: &mut [u8], at: usize, n: u64) -> usize
+    requires digits { n < 100 }
+    requires room { at + 2 ≤ length room.old }
+    ensures text { take result room.new ≡ take at room.old ++ (48 + n / 10) ∷ (48 + n % 10) ∷ [] }
+    ensures at { result ≡ at + 2 }
 {
-    put_two_digits(into, (n / 10) as u8);
-    into.push_reserved(b'0' + (n % 10) as u8);
+    let first = n as usize * 2;
+    let (ten, one) = (PAIRS[first], PAIRS[first + 1]);
+    let half = put_byte(room, at, ten);
+    put_byte(room, half, one)
 }
 
 /// Puts a number of any digits.
 #[inline(never)]
-fn put_long(into: &mut Vec<u8>, n: u64)
-    requires { vec_len into.old + 20 ≤ vec_capacity into.old }
-    ensures items { into.new.items ≡ into.old.items ++ decimal n }
-    ensures len { vec_len into.new ≤ vec_len into.old + 20 }
-    ensures capacity { vec_capacity into.new ≡ vec_capacity into.old }
+#[cold]
+fn put_long(room: &mut [u8], at: usize, n: u64) -> usize
+    requires { at + 20 ≤ length room.old }
+    ensures text { take result room.new ≡ take at room.old ++ decimal n }
+    ensures at { result ≤ at + 20 }
 {
     let mut buffer = Buffer::new();
-    put_bytes(into, buffer.format(n).as_bytes());
+    put_bytes(room, at, buffer.format(n).as_bytes())
+}
+
+/// Puts a number of more than two digits, which few have.
+#[inline(never)]
+#[cold]
+fn put_many_digits(room: &mut [u8], at: usize, n: u64) -> usize
+    requires digits { 100 ≤ n }
+    requires room { at + 20 ≤ length room.old }
+    ensures text { take result room.new ≡ take at room.old ++ decimal n }
+    ensures at { result ≤ at + 20 }
+{
+    if n >= 1000 {
+        return put_long(room, at, n);
+    }
+    let one = put_byte(room, at, b'0' + (n / 100) as u8);
+    put_two_digits(room, one, n % 100)
 }
 
 /// Puts a number in decimal; most have one digit or two.
-#[tactic(auto, using(std::proofs::lemmas::Fmt::decimal_digit))]
-pub(crate) fn put_number(into: &mut Vec<u8>, n: u64)
-    requires { vec_len into.old + 20 ≤ vec_capacity into.old }
-    ensures items { into.new.items ≡ into.old.items ++ decimal n }
-    ensures len { vec_len into.new ≤ vec_len into.old + 20 }
-    ensures capacity { vec_capacity into.new ≡ vec_capacity into.old }
+#[inline(always)]
+#[tactic(auto, using(std::proofs::lemmas::Fmt::decimal_digit, crate::proofs::Numbers::two_digits))]
+pub(crate) fn put_number(room: &mut [u8], at: usize, n: u64) -> usize
+    requires { at + 20 ≤ length room.old }
+    ensures text { take result room.new ≡ take at room.old ++ decimal n }
+    ensures at { result ≤ at + 20 }
 {
     if n < 10 {
-        into.push_reserved(b'0' + n as u8);
+        put_byte(room, at, b'0' + n as u8)
     } else if n < 100 {
-        put_two_digits(into, n as u8);
-    } else if n < 1000 {
-        put_three_digits(into, n as u16);
+        put_two_digits(room, at, n)
     } else {
-        put_long(into, n);
+        put_many_digits(room, at, n)
     }
 }
 
 /// Puts a number behind a space.
-#[inline]
-pub(crate) fn put_spaced_number(into: &mut Vec<u8>, n: u64)
-    requires { vec_len into.old + 21 ≤ vec_capacity into.old }
-    ensures items { into.new.items ≡ into.old.items ++ codes " " ++ decimal n }
-    ensures len { vec_len into.new ≤ vec_len into.old + 21 }
-    ensures capacity { vec_capacity into.new ≡ vec_capacity into.old }
+#[inline(always)]
+pub(crate) fn put_spaced_number(room: &mut [u8], at: usize, n: u64) -> usize
+    requires { at + 21 ≤ length room.old }
+    ensures text { take result room.new ≡ take at room.old ++ codes " " ++ decimal n }
+    ensures at { result ≤ at + 21 }
 {
-    into.push_reserved(b' ');
-    put_number(into, n);
+    let begun = put_byte(room, at, b' ');
+    put_number(room, begun, n)
 }
 
 /// The numbers of two machines, in their order.
@@ -126,63 +145,64 @@ fn pair(a: u8, b: u8) -> [u64; 2]
 }
 
 /// Puts two machines, each behind a space.
-#[inline]
-pub(crate) fn put_spaced_pair(into: &mut Vec<u8>, a: u8, b: u8)
-    requires { vec_len into.old + 42 ≤ vec_capacity into.old }
-    ensures items { into.new.items ≡ into.old.items ++ codes " " ++ decimal a ++ codes " " ++ decimal b }
-    ensures len { vec_len into.new ≤ vec_len into.old + 42 }
-    ensures capacity { vec_capacity into.new ≡ vec_capacity into.old }
+#[inline(always)]
+pub(crate) fn put_spaced_pair(room: &mut [u8], at: usize, a: u8, b: u8) -> usize
+    requires { at + 42 ≤ length room.old }
+    ensures text { take result room.new ≡ take at room.old ++ codes " " ++ decimal a ++ codes " " ++ decimal b }
+    ensures at { result ≤ at + 42 }
 {
     let [first, second] = pair(a, b);
-    put_spaced_number(into, first);
-    put_spaced_number(into, second);
+    let one = put_spaced_number(room, at, first);
+    put_spaced_number(room, one, second)
 }
 
 /// Puts the name of a process behind a space.
-pub(crate) fn put_spaced_pid(into: &mut Vec<u8>, pid: Pid)
-    requires { vec_len into.old + 42 ≤ vec_capacity into.old }
-    ensures items { into.new.items ≡ into.old.items ++ codes " " ++ pid_word pid }
-    ensures len { vec_len into.new ≤ vec_len into.old + 42 }
-    ensures capacity { vec_capacity into.new ≡ vec_capacity into.old }
+#[inline(always)]
+pub(crate) fn put_spaced_pid(room: &mut [u8], at: usize, pid: Pid) -> usize
+    requires { at + 42 ≤ length room.old }
+    ensures text { take result room.new ≡ take at room.old ++ codes " " ++ pid_word pid }
+    ensures at { result ≤ at + 42 }
 {
-    put_spaced_number(into, u64::from(pid.home));
-    into.push_reserved(b'.');
-    put_number(into, u64::from(pid.num));
+    let home = put_spaced_number(room, at, u64::from(pid.home));
+    let dot = put_byte(room, home, b'.');
+    put_number(room, dot, u64::from(pid.num))
 }
 
 /// Puts the name of a message behind a space.
-pub(crate) fn put_spaced_id(into: &mut Vec<u8>, id: MsgId)
-    requires { vec_len into.old + 64 ≤ vec_capacity into.old }
-    ensures items { into.new.items ≡ into.old.items ++ codes " " ++ id_word id }
-    ensures len { vec_len into.new ≤ vec_len into.old + 64 }
-    ensures capacity { vec_capacity into.new ≡ vec_capacity into.old }
+#[inline(always)]
+pub(crate) fn put_spaced_id(room: &mut [u8], at: usize, id: MsgId) -> usize
+    requires { at + 64 ≤ length room.old }
+    ensures text { take result room.new ≡ take at room.old ++ codes " " ++ id_word id }
+    ensures at { result ≤ at + 64 }
 {
-    put_spaced_pid(into, id.from);
-    into.push_reserved(b'#');
-    put_number(into, u64::from(id.n));
+    let from = put_spaced_pid(room, at, id.from);
+    let sign = put_byte(room, from, b'#');
+    let number = put_number(room, sign, u64::from(id.n));
     if id.answer {
-        into.push_reserved(b'!');
+        put_byte(room, number, b'!')
+    } else {
+        number
     }
 }
 
 /// Puts a word of at most 16 bytes behind a space.
-#[inline]
-pub(crate) fn put_spaced_word(into: &mut Vec<u8>, word: &str)
+#[inline(always)]
+pub(crate) fn put_spaced_word(room: &mut [u8], at: usize, word: &str) -> usize
     requires short { length word.now ≤ 16 }
-    requires room { vec_len into.old + 17 ≤ vec_capacity into.old }
-    ensures items { into.new.items ≡ into.old.items ++ codes " " ++ word.now }
-    ensures len { vec_len into.new ≤ vec_len into.old + 17 }
-    ensures capacity { vec_capacity into.new ≡ vec_capacity into.old }
+    requires room { at + 17 ≤ length room.old }
+    ensures text { take result room.new ≡ take at room.old ++ codes " " ++ word.now }
+    ensures at { result ≤ at + 17 }
 {
-    into.push_reserved(b' ');
-    put_bytes(into, word.as_bytes());
+    let begun = put_byte(room, at, b' ');
+    put_bytes(room, begun, word.as_bytes())
 }
 
 /// Ends a line.
-#[inline]
-pub(crate) fn end_line(into: &mut Vec<u8>)
-    requires { vec_len into.old < vec_capacity into.old }
-    ensures items { into.new.items ≡ into.old.items ++ codes "\n" }
+#[inline(always)]
+pub(crate) fn end_line(room: &mut [u8], at: usize) -> usize
+    requires { at < length room.old }
+    ensures text { take result room.new ≡ take at room.old ++ codes "\n" }
+    ensures within { result ≤ length room.old }
 {
-    into.push_reserved(b'\n');
+    put_byte(room, at, b'\n')
 }

@@ -1,5 +1,5 @@
 use Rattle.dm_text.proofs.Begun.{ended, named_first, number_more, word_more}
 use Rattle.dm_text.proofs.rows.put_process_room.Goals as goal
 
-pub returns : goal.returns
-returns g c = ended _ _ _ _ _ (number_more _ _ _ _ _ _ _ (number_more _ _ _ _ _ _ _ (word_more _ _ _ _ _ _ (named_first _ _ _ c.put_bytes.ensures.items) c.put_spaced_pid.ensures.items) c.put_spaced_number.ensures.items c.from.ensures) c.put_spaced_number-2.ensures.items c.from-2.ensures) c.end_line.ensures.items
+pub returns-clause-text : goal.returns-clause-text
+returns-clause-text g c = ended _ _ _ _ _ (number_more _ _ _ _ _ _ _ (number_more _ _ _ _ _ _ _ (word_more _ _ _ _ _ _ (named_first _ _ _ c.put_bytes-at.ensures.text) c.put_spaced_pid-at.ensures.text) c.put_spaced_number-at.ensures.text c.from.ensures) c.put_spaced_number-at-2.ensures.text c.from-2.ensures) c.end_line.ensures.text

@@ -1,9 +1,8 @@
-use Rattle.dm_text.proofs.Names.{◌≡◌, ◌+◌, ◌++◌, take, vec_capacity, vec_len}
+use Rattle.dm_text.proofs.Names.{◌≡◌, ◌+◌, ◌++◌, take}
 use Rattle.dm_text.proofs.within.put_bytes.Given as goal
 
 abbrev pub invariant-loop-byte : goal.invariant-loop-byte
 invariant-loop-byte l = record {
-  items : l.into.items ≡ l.initial.into.items ++ take l.byte-index l.bytes;
-  len : vec_len l.into ≡ vec_len l.initial.into + l.byte-index;
-  capacity : vec_capacity l.into ≡ vec_capacity l.initial.into;
+  text : take l.end l.room ≡ take l.at l.initial.room ++ take l.byte-index l.bytes;
+  end : l.end ≡ l.at + l.byte-index;
 }

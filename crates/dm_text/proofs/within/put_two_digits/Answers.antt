@@ -1,5 +1,8 @@
 use Rattle.dm_text.proofs.Numbers.{two_put}
+use Rattle.dm_text.proofs.Pairs.{pair_at}
 use Rattle.dm_text.proofs.within.put_two_digits.Goals as goal
 
-pub returns-clause-items : goal.returns-clause-items
-returns-clause-items c = two_put _ _ _ c.args.n c.requires.digits.0 c.requires.digits.1 c.push_reserved.ensures.items c.push_reserved-2.ensures.items
+pub returns-clause-text : goal.returns-clause-text
+returns-clause-text c =
+    let p = pair_at c.args.n c.requires.digits in
+    two_put _ _ _ c.args.n _ _ p.0 p.1 c.put_byte-half.ensures.text c.put_byte.ensures.text
