@@ -1,16 +1,13 @@
 -- How far a text has been checked, group by group.
 use Rattle.dm_check.proofs.Names.{◌≡◌, ◌<◌, ℕ, ◌+◌, true, List, [], ◌∷◌, ◌++◌, length, refl, ap, sym, ◌∙◌, subst, append_assoc, append-nil, length-append, arith, Some, All, All-nil, All-cons}
-use Rattle.dm_check.proofs.Names.{All-append, Boot, Step, Line, LineFits, pieces, text_of_lines, WorldState, joined, Stop, Went, goes, Does, StopsWorn, NotDue, suc, HasChecked, JudgedBy, JudgedThere, NoGroup, IsStray, JudgeError, Wearing, due_behind, ComesTo, SaysAs}
+use Rattle.dm_check.proofs.Names.{All-append, Boot, Step, Line, LineFits, pieces, text_of_lines, WorldState, joined, Went, goes, Does, suc, HasChecked, JudgedBy, JudgedThere, LacksGroup, IsStray, JudgeError, NoneDue, told_of_none, Wearing, due_behind, ComesTo, SaysAs}
 use Rattle.dm_check.proofs.Names.{first_line, head_of_line, AllHeld, AreHeads, Course, Verdict, behind_line, can_hold, judged_from, verdict_by}
 use Rattle.dm_line.specs.declared.line.Line.TheVariants as line
-use Rattle.dm_node.specs.declared.stop.Stop.TheVariants as stop
-use Rattle.dm_check.specs.declared.refusal.JudgeError.TheVariants as error
-use Rattle.dm_check.specs.declared.refusal.WasDue.TheVariants as was
 use Rattle.dm_check.specs.Judge as judge
 use Rattle.dm_check.proofs.Heads.{IsHeaded, headed}
 use Rattle.dm_check.proofs.Dues.{front_due, head_due}
-use Rattle.dm_check.proofs.Judging.{due_group, lines_append}
-use Rattle.dm_check.proofs.Straying.{judged_on, stray_judged, worn_judged}
+use Rattle.dm_check.proofs.Judging.{due_group, group_stands, lines_append}
+use Rattle.dm_check.proofs.Straying.{judged_on, none_judged, stray_judged}
 use Rattle.dm_run.proofs.Printing.{joined_last}
 
 pub heads_last : (es : List Step) (gs : List (List Line)) (e : Step) (g rest : List Line) → AreHeads es gs → g ≡ line.Head e ∷ rest → AreHeads (es ++ e ∷ []) (gs ++ g ∷ [])
@@ -73,9 +70,10 @@ due_over k b wears es gs w v e lines behind number n rest others s went head hel
 -- the group of a head is due, and its lines stand
 pub checks_on : (b : Boot) (bytes rest others : List ℕ) (number groups : ℕ) (w v : WorldState) (e : Step) (lines : List Line) → HasChecked b bytes rest number groups w
     → head_of_line (first_line (pieces 10 rest)) ≡ Some e → can_hold (length b.machines) e ≡ true → Does b w e lines v → All LineFits lines → rest ≡ text_of_lines lines ++ others
-    → ((k : Course) (es : List Step) → judged_from k (behind_line lines es) number (pieces 10 rest) ≡ judged_from k (judge.Head es) (number + length lines) (pieces 10 others))
     → HasChecked b bytes others (number + length lines) (groups + 1) v
-checks_on b bytes rest others number groups w v e lines h head held d fits read stand =
+checks_on b bytes rest others number groups w v e lines h head held d fits read =
+    let stand : (k : Course) (es : List Step) → judged_from k (behind_line lines es) number (pieces 10 rest) ≡ judged_from k (judge.Head es) (number + length lines) (pieces 10 others) =
+    λ k es. ap (λ (t : List ℕ). judged_from k (behind_line lines es) number (pieces 10 t)) read ∙ group_stands k lines es number others fits in
     let (behind, begins) = does_head b w v e lines d in
     let counts : length h.lines ≡ groups = h.count in
     let dones : length h.steps ≡ groups = h.done in
@@ -109,30 +107,25 @@ checks_fall b bytes rest number groups w v e lines x h head held d fits strays =
     stray_judged b k es e lines more rest number x begins fits head (ap (λ (n : ℕ). can_hold n e) s.machines ∙ held) (s.goes es gs w e lines v went d)
     (subst (λ (q : ℕ). IsStray q e lines rest number x) (sym s.quantum) strays))
 
--- no group is due
-pub checks_stop : (b : Boot) (bytes rest : List ℕ) (number groups : ℕ) (w : WorldState) (e : Step) (x : JudgeError) → HasChecked b bytes rest number groups w
-    → head_of_line (first_line (pieces 10 rest)) ≡ Some e → NoGroup b w e number x → JudgedBy b bytes x
-checks_stop b bytes rest number groups w e x h head none = judged_on b bytes rest number groups w x h (none (pieces 10 rest) head)
+-- no group is due behind it
+pub checks_stop : (b c : Boot) (bytes rest : List ℕ) (number groups : ℕ) (w : WorldState) (e : Step) (why : NoneDue) (x : JudgeError) → c ≡ b → HasChecked b bytes rest number groups w
+    → head_of_line (first_line (pieces 10 rest)) ≡ Some e → LacksGroup c w e why → x ≡ told_of_none why e number → JudgedBy b bytes x
+checks_stop b c bytes rest number groups w e why x same h head lacks is =
+    judged_on b bytes rest number groups w x h (none_judged b w e number why x (subst (λ (d : Boot). LacksGroup d w e why) same lacks) is (pieces 10 rest) head)
 
 -- the same of a world of this boot file, and of the lines as a slice
 pub checks_more : (b c : Boot) (bytes rest others : List ℕ) (number groups : ℕ) (w v : WorldState) (e : Step) (lines slice : List Line) → c ≡ b → slice ≡ lines → HasChecked b bytes rest number groups w
     → head_of_line (first_line (pieces 10 rest)) ≡ Some e → can_hold (length c.machines) e ≡ true → Does c w e lines v → All LineFits lines → rest ≡ text_of_lines slice ++ others
-    → ((k : Course) (es : List Step) → judged_from k (behind_line slice es) number (pieces 10 rest) ≡ judged_from k (judge.Head es) (number + length slice) (pieces 10 others))
     → HasChecked b bytes others (number + length lines) (groups + 1) v
-checks_more b c bytes rest others number groups w v e lines slice same is h head held d fits read stand =
+checks_more b c bytes rest others number groups w v e lines slice same is h head held d fits read =
     checks_on b bytes rest others number groups w v e lines h head (subst (λ (x : Boot). can_hold (length x.machines) e ≡ true) same held) (subst (λ (x : Boot). Does x w e lines v) same d) fits
     (subst (λ (ls : List Line). rest ≡ text_of_lines ls ++ others) is read)
-    (subst (λ (ls : List Line). (k : Course) (es : List Step) → judged_from k (behind_line ls es) number (pieces 10 rest) ≡ judged_from k (judge.Head es) (number + length ls) (pieces 10 others)) is stand)
 
 pub checks_less : (b c : Boot) (quantum : ℕ) (bytes rest : List ℕ) (number groups : ℕ) (w v : WorldState) (e : Step) (lines slice : List Line) (x : JudgeError) → c ≡ b → b.quantum ≡ quantum → slice ≡ lines → HasChecked b bytes rest number groups w
     → head_of_line (first_line (pieces 10 rest)) ≡ Some e → can_hold (length c.machines) e ≡ true → Does c w e lines v → All LineFits lines → IsStray quantum e slice rest number x → JudgedBy b bytes x
 checks_less b c quantum bytes rest number groups w v e lines slice x same equal is h head held d fits strays =
     checks_fall b bytes rest number groups w v e lines x h head (subst (λ (y : Boot). can_hold (length y.machines) e ≡ true) same held) (subst (λ (y : Boot). Does y w e lines v) same d) fits
     (subst (λ (ls : List Line). IsStray b.quantum e ls rest number x) is (subst (λ (q : ℕ). IsStray q e slice rest number x) (sym equal) strays))
-
--- nor is a group that would route a message between two machines that count as many as they may, where its stop is that
-pub none_stopped : (b : Boot) (w : WorldState) (e : Step) (number from to : ℕ) (s : Stop) (x : JudgeError) → s ≡ stop.Worn from to → x ≡ error.Refused (record { line = number; fault = NotDue; due = was.Worn from to e }) → can_hold (length b.machines) e ≡ true → StopsWorn b w e s → NoGroup b w e number x
-none_stopped b w e number from to s x stopped is held worn = worn_judged b w e number from to x is held (subst (StopsWorn b w e) stopped worn)
 
 -- a group has a line
 pub some_lines : (b : Boot) (w v : WorldState) (e : Step) (lines : List Line) → Does b w e lines v → 0 < length lines

@@ -24,7 +24,6 @@ pub use Rattle.dm_shape.proofs.Imports.{IsFull, bytes_eq, bytes_eq-Decides, end_
 pub use Rattle.dm_shape.proofs.NamesRead.{cut_is, first_is, one_piece, some_piece}
 pub use Rattle.dm_shape.proofs.ShapeLaws.{ends_have, heads_have, lines_have}
 unfoldable pub use Rattle.dm_shape.specs.Heads.{head_step}
-pub use Rattle.dm_node.specs.declared.stop.Stop.{Stop}
 pub use Rattle.dm_world.specs.Ends.{end_lines as ends_of}
 pub use Rattle.dm_world.specs.Meets.{world_state}
 pub use Rattle.dm_world.specs.declared.world.World.{World}
@@ -45,9 +44,10 @@ pub use Rattle.dm_check.specs.declared.fault.TraceFault.TheVariants.{NotALine, N
 pub use Rattle.dm_check.specs.declared.stop.CheckError.{CheckError}
 pub use Rattle.dm_check.specs.DueThere.{Wearing, before_told, behind_told, due_behind, due_told, end_told, group_told, head_told, line_told, told_of_last}
 unfoldable pub use Rattle.dm_check.specs.DueThere.{was_due}
-pub use Rattle.dm_check.specs.Judged.{EndsStray, FallsFrom, GroupStrays, IsAt, IsRefusedSo, IsStray, JudgedBy, JudgedFrom, JudgedThere, LineStrays, NoGroup, StandsTo, StrayedSo, StraysBehind, StraysEnd, StraysHere, TellsFewer, WearsAs, strayed}
+pub use Rattle.dm_check.specs.Judged.{EndsStray, FallsFrom, GroupStrays, IsAt, IsRefusedSo, IsStray, JudgedBy, JudgedFrom, JudgedThere, LacksGroup, LineStrays, StandsTo, StrayedSo, StraysBehind, StraysEnd, StraysHere, TellsFewer, WearsAs, strayed, told_of_none}
 pub use Rattle.dm_check.specs.declared.follow.Stray.{Stray}
 pub use Rattle.dm_check.specs.declared.refusal.Group.{Group}
 pub use Rattle.dm_check.specs.declared.refusal.JudgeError.{JudgeError}
 pub use Rattle.dm_check.specs.declared.refusal.Refusal.{Refusal}
 pub use Rattle.dm_check.specs.declared.refusal.WasDue.{WasDue}
+pub use Rattle.dm_check.specs.declared.trace.NoneDue.{NoneDue}

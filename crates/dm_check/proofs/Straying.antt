@@ -1,13 +1,14 @@
 -- A text that strays from what is due, and what was due there.
 use Rattle.dm_check.proofs.Names.{◌≡◌, ◌<◌, ◌≤◌, ℕ, zero, suc, ◌+◌, Bool, true, false, if◌then◌else◌, List, [], ◌∷◌, ◌++◌, length, take, drop, get_or, drop-cons, refl, ap, sym, ◌∙◌, subst, arith, Some, None, All, codes, bytes_eq, Boot, Step, Line, EndLine, EndFits, LineFits, IsFull, pieces, text_of_ends, text_of_lines}
 use Rattle.dm_check.proofs.Names.{◌==◌, NotTheEnd, All-nil, All-cons, false≢true, at_end, take-append-drop, WorldState, WearsBy, Course, Due, Refused, Stands, Falls, NotDue, TraceFault, CheckError, RefusedBy, behind_line, begins_group, at_head, can_hold, head_of_line, first_line, is_final, judged_from, told, taken, head_step, FallsBy}
-use Rattle.dm_check.proofs.Names.{Wearing, WasDue, Refusal, JudgeError, Stray, due_behind, end_told, group_told, head_told, was_due, EndsStray, FallsFrom, GroupStrays, HasChecked, IsAt, IsStray, JudgedBy, JudgedFrom, JudgedThere, LineStrays, NoGroup, StandsTo, StrayedSo, StraysEnd, TellsFewer, strayed}
+use Rattle.dm_check.proofs.Names.{Wearing, WasDue, Refusal, JudgeError, Stray, due_behind, end_told, group_told, head_told, was_due, EndsStray, FallsFrom, GroupStrays, HasChecked, IsAt, IsStray, JudgedBy, JudgedFrom, JudgedThere, LacksGroup, LineStrays, NoneDue, StandsTo, StrayedSo, StraysEnd, TellsFewer, strayed, told_of_none}
 use Rattle.dm_line.specs.declared.line.Line.TheVariants as line
 use Rattle.dm_check.specs.Judge as judge
 use Rattle.dm_check.specs.declared.follow.Stray.TheVariants as stray
 use Rattle.dm_check.specs.declared.refusal.JudgeError.TheVariants as error
 use Rattle.dm_check.specs.declared.refusal.WasDue.TheVariants as was
 use Rattle.dm_check.specs.declared.stop.CheckError.TheVariants as no
+use Rattle.dm_check.specs.declared.trace.NoneDue.TheVariants as none
 use Rattle.dm_check.proofs.Dues.{cut_at, due_fewer, ends_due, final_due, front_due, head_due, head_told_is, line_told_is}
 use Rattle.dm_check.proofs.Judging.{due_ends, due_group, no_group}
 
@@ -122,8 +123,12 @@ stray_judged b c es e lines more bytes number x begins fits head held group s =
     (subst (λ (ls : List Line). GroupStrays c.quantum ls bytes number s.stray) begins s.strays)
     (subst (λ (ls : List Line). StrayedSo (judged_from c (behind_line ls (es ++ e ∷ [])) number (pieces 10 bytes)) s.stray) begins (s.refused c (es ++ e ∷ []) refl)))
 
--- no group is due behind a head that no schedule can hold
-pub unheld_judged : (b : Boot) (w : WorldState) (e : Step) (number : ℕ) (x : JudgeError) → x ≡ error.Refused (record { line = number; fault = NotDue; due = was.Head }) → can_hold (length b.machines) e ≡ false → NoGroup b w e number x
+-- no group is due behind this head
+abbrev NoGroup : Boot → WorldState → Step → ℕ → JudgeError → Type 0
+NoGroup b old e number x = (ps : List (List ℕ)) → head_of_line (first_line ps) ≡ Some e → JudgedThere b old number ps x
+
+-- that of a directive that no schedule can hold
+unheld_judged : (b : Boot) (w : WorldState) (e : Step) (number : ℕ) (x : JudgeError) → x ≡ error.Refused (record { line = number; fault = NotDue; due = was.Head }) → can_hold (length b.machines) e ≡ false → NoGroup b w e number x
 unheld_judged b w e number x is unheld ps head k es gs s went =
     let here : can_hold k.machines e ≡ false = ap (λ (n : ℕ). can_hold n e) s.machines ∙ unheld in
     judged_as b k (judge.Head es) number ps x (record { line = number; fault = NotDue; due = was.Head }) is (record {
@@ -135,8 +140,8 @@ unheld_judged b w e number x is unheld ps head k es gs s went =
           ∙ ap (λ (t : Bool). Some (if t then group_told number e (wears es e) (k.group es e) else was.Head)) here;
     })
 
--- nor where it would wear a pair out
-pub worn_judged : (b : Boot) (w : WorldState) (e : Step) (number from to : ℕ) (x : JudgeError) → x ≡ error.Refused (record { line = number; fault = NotDue; due = was.Worn from to e }) → can_hold (length b.machines) e ≡ true → WearsBy b w e from to → NoGroup b w e number x
+-- and that of one that would wear a pair out
+worn_judged : (b : Boot) (w : WorldState) (e : Step) (number from to : ℕ) (x : JudgeError) → x ≡ error.Refused (record { line = number; fault = NotDue; due = was.Worn from to e }) → can_hold (length b.machines) e ≡ true → WearsBy b w e from to → NoGroup b w e number x
 worn_judged b w e number from to x is held d ps head k es gs s went =
     let here : can_hold k.machines e ≡ true = ap (λ (n : ℕ). can_hold n e) s.machines ∙ held in
     let none : k.group es e ≡ None = s.worn es gs w e from to went d in
@@ -151,6 +156,12 @@ worn_judged b w e number from to x is held d ps head k es gs s went =
           ∙ ap (λ o. Some (group_told number e (wears es e) o)) none
           ∙ ap (λ o. Some (group_told number e o None)) (u es gs w e from to went d);
     })
+
+-- so what is told of it is judged
+pub none_judged : (b : Boot) (w : WorldState) (e : Step) (number : ℕ) (why : NoneDue) (x : JudgeError) → LacksGroup b w e why → x ≡ told_of_none why e number → (ps : List (List ℕ)) → head_of_line (first_line ps) ≡ Some e → JudgedThere b w number ps x
+none_judged b w e number none.Unheld x lacks is = unheld_judged b w e number x is lacks
+none_judged b w e number (none.Worn from to) x (held, worn) is = worn_judged b w e number from to x is held worn
+none_judged b w e number (none.NoMemory lack) x lacks is = λ ps head k es gs s went. subst (JudgedFrom b k (judge.Head es) number ps) (sym is) tt
 
 -- where neither a head nor `final` stands
 falls_between : (c : Course) (es : List Step) (number : ℕ) (bytes : List ℕ) → (length bytes == 0) ≡ false → head_of_line (first_line (pieces 10 bytes)) ≡ None → is_final (first_line (pieces 10 bytes)) ≡ false → FallsBy c (judge.Head es) number bytes NotDue

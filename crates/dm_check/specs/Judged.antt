@@ -11,10 +11,10 @@ use Rattle.dm_text.specs.Text.{text, text_of_ends, text_of_lines}
 use Rattle.dm_shape.specs.Shapes.{has_shape}
 use Rattle.dm_world.specs.World.{WorldState}
 use Rattle.dm_run.specs.Went.{WearsBy, Went}
-use Rattle.dm_check.specs.Checking.{head_of_line, first_line}
 use Rattle.dm_check.specs.DueThere.{Wearing, due_behind, was_due}
-use Rattle.dm_check.specs.Judge.{Course, Due, Head, Nothing, Verdict, Refused, Stands, behind_line, is_line_text, judged_from, told, verdict_by}
+use Rattle.dm_check.specs.Judge.{Course, Due, Head, Nothing, Verdict, Refused, Stands, behind_line, can_hold, is_line_text, judged_from, told, verdict_by}
 use Rattle.dm_check.specs.Says.{SaysAs}
+use Rattle.dm_check.specs.declared.fault.TraceFault.TheVariants.{NotDue}
 use Rattle.dm_check.specs.declared.follow.Stray.{Stray}
 use Rattle.dm_check.specs.declared.follow.Stray.TheVariants as stray
 use Rattle.dm_check.specs.declared.refusal.Group.{Group}
@@ -24,6 +24,8 @@ use Rattle.dm_check.specs.declared.refusal.Refusal.{Refusal}
 use Rattle.dm_check.specs.declared.refusal.WasDue.{WasDue}
 use Rattle.dm_check.specs.declared.stop.CheckError.{CheckError}
 use Rattle.dm_check.specs.declared.stop.CheckError.TheVariants as no
+use Rattle.dm_check.specs.declared.trace.NoneDue.{NoneDue}
+use Rattle.dm_check.specs.declared.trace.NoneDue.TheVariants as none
 use Rattle.dm_check.specs.declared.refusal.WasDue.TheVariants as was
 
 -- what says which pair wears says it as the machines of this boot file do, wherever a run of them has come
@@ -59,9 +61,17 @@ JudgedFrom b c due number ps (error.NoMemory lack) = ⊤
 abbrev pub JudgedThere : Boot → WorldState → ℕ → List (List ℕ) → JudgeError → Type 0
 JudgedThere b w number ps x = (c : Course) (es : List Step) (gs : List (List Line)) → SaysAs b c → Went b es gs w → JudgedFrom b c (Head es) number ps x
 
--- no group is due behind this head
-abbrev pub NoGroup : Boot → WorldState → Step → ℕ → JudgeError → Type 0
-NoGroup b old e number x = (ps : List (List ℕ)) → head_of_line (first_line ps) ≡ Some e → JudgedThere b old number ps x
+-- why a world has no group for this directive: no schedule can hold it, or it would wear a pair out; want of memory says nothing
+abbrev pub LacksGroup : Boot → WorldState → Step → NoneDue → Type 0
+LacksGroup b w e none.Unheld = can_hold (length b.machines) e ≡ false
+LacksGroup b w e (none.Worn from to) = (can_hold (length b.machines) e ≡ true) × WearsBy b w e from to
+LacksGroup b w e (none.NoMemory lack) = ⊤
+
+-- what the text is refused for then, at the head in the line of this number
+abbrev pub told_of_none : NoneDue → Step → ℕ → JudgeError
+told_of_none none.Unheld e number = error.Refused (record { line = number; fault = NotDue; due = was.Head })
+told_of_none (none.Worn from to) e number = error.Refused (record { line = number; fault = NotDue; due = was.Worn from to e })
+told_of_none (none.NoMemory lack) e number = error.NoMemory lack
 
 -- what a stray from a group refuses the text for
 abbrev pub strayed : Stray → Group → JudgeError

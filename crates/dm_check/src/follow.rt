@@ -25,7 +25,7 @@ use dm_memory::NoMemory;
 use dm_reading::split;
 use dm_schedule::Step;
 use dm_shape::has_shape;
-use dm_text::text::{write_end, write_line, write_lines};
+use dm_text::text::{write_end, write_line, write_over};
 
 /// Why a text strays from the lines of a group.
 #[derive(Clone, Copy)]
@@ -45,58 +45,41 @@ pub(crate) enum Stray {
     NoMemory(NoMemory),
 }
 
-/// Follows the group of a head through a text that begins with that head, in the line of this number.
-pub(crate) fn follow_head<'a>(
+/// The text behind the lines of a group, if it begins with them. They are written over the page.
+pub(crate) fn behind_lines<'a>(
+    lines: &[Line],
+    text: &'a [u8],
+    page: &mut Vec<u8>,
+) -> Result<Option<&'a [u8]>, NoMemory>
+    ensures some { IfOk result (λ others. IfSome others (λ rest. text.now ≡ text_of_lines lines.now ++ rest.now)) }
+    ensures none { IfOk result (λ others. IfNone others ((rest : List ℕ) → text.now ≡ text_of_lines lines.now ++ rest → ⊥)) }
+{
+    let end = write_over(lines, page)?;
+    Ok(behind(text, &page.as_slice()[..end]))
+}
+
+/// What a text is refused for that begins with the head of a group, in the line of this number, and not with all its lines:
+/// they are followed one by one.
+#[inline(never)]
+pub(crate) fn refuse_stray(
     quantum: u32,
     head: Step,
     lines: &[Line],
-    text: &'a [u8],
+    text: &[u8],
     number: u64,
     page: &mut Vec<u8>,
-) -> Result<&'a [u8], JudgeError>
+) -> JudgeError
     requires fits { All LineFits lines.now }
     requires room { number + length text.now < 2 ^ 62 }
-    ensures read { IfOk result (λ rest. text.now ≡ text_of_lines lines.now ++ rest.now) }
-    ensures goes { (c : Course) (es : List TheStep) → IfOk result (λ rest.
-        judged_from c (behind_line lines.now es) number (pieces 10 text.now)
-        ≡ judged_from c (judge.Head es) (number + length lines.now) (pieces 10 rest.now)) }
-    ensures stray { IfErr result (IsStray quantum head lines.now text.now number) }
+    requires other { (rest : List ℕ) → text.now ≡ text_of_lines lines.now ++ rest → ⊥ }
+    ensures { IsStray quantum head lines.now text.now number result }
 {
-    match follow_group(quantum, lines, text, number, page) {
-        Ok(rest) => Ok(rest),
+    match follow_lines(quantum, lines, text, number, page) {
+        Ok(_) => unreachable!(),
         Err(stray) => {
             let group = Group { line: number, head };
-            Err(strayed(stray, group))
+            strayed(stray, group)
         }
-    }
-}
-
-/// Follows a group through a text whose first line has this number, and gives the text behind it: all its lines at once, and
-/// where the text doesn't begin so, line by line. The page holds what is compared.
-fn follow_group<'a>(
-    quantum: u32,
-    lines: &[Line],
-    text: &'a [u8],
-    number: u64,
-    page: &mut Vec<u8>,
-) -> Result<&'a [u8], Stray>
-    requires fits { All LineFits lines.now }
-    requires room { number + length text.now < 2 ^ 62 }
-    ensures read { IfOk result (λ rest. text.now ≡ text_of_lines lines.now ++ rest.now) }
-    ensures goes { (c : Course) (es : List TheStep) → IfOk result (λ rest.
-        judged_from c (behind_line lines.now es) number (pieces 10 text.now)
-        ≡ judged_from c (judge.Head es) (number + length lines.now) (pieces 10 rest.now)) }
-    ensures refused { (c : Course) (es : List TheStep) → c.quantum ≡ quantum →
-        IfErr result (StrayedSo (judged_from c (behind_line lines.now es) number (pieces 10 text.now))) }
-    ensures stray { IfErr result (GroupStrays quantum lines.now text.now number) }
-{
-    page.clear();
-    if let Err(no) = write_lines(lines, page) {
-        return Err(Stray::NoMemory(no));
-    }
-    match behind(text, page.as_slice()) {
-        Some(rest) => Ok(rest),
-        None => follow_lines(quantum, lines, text, number, page),
     }
 }
 
@@ -111,9 +94,6 @@ fn follow_lines<'a>(
     requires fits { All LineFits lines.now }
     requires room { number + length text.now < 2 ^ 62 }
     ensures read { IfOk result (λ rest. text.now ≡ text_of_lines lines.now ++ rest.now) }
-    ensures goes { (c : Course) (es : List TheStep) → IfOk result (λ rest.
-        judged_from c (behind_line lines.now es) number (pieces 10 text.now)
-        ≡ judged_from c (judge.Head es) (number + length lines.now) (pieces 10 rest.now)) }
     ensures refused { (c : Course) (es : List TheStep) → c.quantum ≡ quantum →
         IfErr result (StrayedSo (judged_from c (behind_line lines.now es) number (pieces 10 text.now))) }
     ensures stray { IfErr result (GroupStrays quantum lines.now text.now number) }

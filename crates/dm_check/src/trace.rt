@@ -15,15 +15,16 @@ ghost use Rattle.dm_check.specs.Checking.{first_line, head_of_line, is_final};
 ghost use Rattle.dm_check.specs.Good.{EndsFit, IsPrinted, good_verdict, text_behind};
 ghost use Rattle.dm_check.specs.Judge as judge;
 ghost use Rattle.dm_check.specs.Judge.{Course, can_hold, judged_from};
-ghost use Rattle.dm_check.specs.Judged.{JudgedBy, JudgedThere, NoGroup};
+ghost use Rattle.dm_check.specs.Judged.{JudgedBy, JudgedThere, LacksGroup, told_of_none};
 ghost use Rattle.dm_check.specs.Says.{ComesTo, RefusedBy, SaysAs};
 
 use crate::MOST_TRACE;
 use crate::fault::TraceFault;
-use crate::follow::{follow_ends, follow_head, unless_none};
+use crate::follow::{behind_lines, follow_ends, refuse_stray, unless_none};
 use crate::refusal::{JudgeError, Refusal, WasDue, due_end, refuse};
 use crate::stop::CheckError;
 use dm_line::line::Line;
+use dm_memory::NoMemory;
 use dm_onekernel::Boot;
 use dm_reading::split;
 use dm_run::{begin, end_lines, step_on};
@@ -101,8 +102,16 @@ fn judge_on(
     let mut number: u64 = 1;
     let mut groups: u64 = 0;
     'groups: while let Some(step) = first_head(rest) {
-        let lines = group(machines, &step, number, world)?;
-        rest = follow_head(quantum, step, lines.as_slice(), rest, number, &mut page)?;
+        let lines = match group(machines, &step, world) {
+            Ok(lines) => lines,
+            Err(none) => return Err(refuse_head(none, step, number)),
+        };
+        let due = lines.as_slice();
+        rest = match behind_lines(due, rest, &mut page) {
+            Ok(Some(others)) => others,
+            Ok(None) => return Err(refuse_stray(quantum, step, due, rest, number, &mut page)),
+            Err(no) => return Err(JudgeError::NoMemory(no)),
+        };
         number += lines.len() as u64;
         groups += 1;
         world.keep(lines);
@@ -122,8 +131,18 @@ fn first_head(text: &[u8]) -> Option<Step>
     }
 }
 
-/// The group of a head that stands in the line of this number, if one is due.
-fn group(machines: u8, step: &Step, number: u64, world: &mut World) -> Result<Vec<Line>, JudgeError>
+/// Why no group is due behind a head.
+#[derive(Clone, Copy)]
+pub(crate) enum NoneDue {
+    /// No schedule for so many machines can hold its directive.
+    Unheld,
+    /// It would route a message between two machines that count as many as they may.
+    Worn { from: u8, to: u8 },
+    NoMemory(NoMemory),
+}
+
+/// The group of a head, if one is due.
+fn group(machines: u8, step: &Step, world: &mut World) -> Result<Vec<Line>, NoneDue>
     requires law { RunsGo }
     requires running { IsRunning world.old }
     requires groups { world.old.groups < 2 ^ 127 }
@@ -134,22 +153,29 @@ fn group(machines: u8, step: &Step, number: u64, world: &mut World) -> Result<Ve
     ensures running { OnOk result (IsRunning world.new) }
     ensures counts { OnOk result (world.new.groups ≡ world.old.groups + 1) }
     ensures boot { world.new.boot ≡ world.old.boot }
-    ensures none { IfErr result (NoGroup world.old.boot (world_state world.old) step.now number) }
+    ensures none { IfErr result (LacksGroup world.old.boot (world_state world.old) step.now) }
 {
     if !can_hold(machines, step) {
-        return Err(refuse(number, TraceFault::NotDue, WasDue::Head));
+        return Err(NoneDue::Unheld);
     }
     match step_on(world, step) {
         Ok(lines) => Ok(lines),
-        Err(Stop::NoMemory(no)) => Err(JudgeError::NoMemory(no)),
-        Err(Stop::Worn { from, to }) => {
-            let worn = WasDue::Worn {
-                from,
-                to,
-                head: *step,
-            };
-            Err(refuse(number, TraceFault::NotDue, worn))
+        Err(Stop::Worn { from, to }) => Err(NoneDue::Worn { from, to }),
+        Err(Stop::NoMemory(no)) => Err(NoneDue::NoMemory(no)),
+    }
+}
+
+/// What a text is refused for at a head that stands in the line of this number, where no group is due.
+#[inline(never)]
+fn refuse_head(none: NoneDue, head: Step, number: u64) -> JudgeError
+    ensures { result ≡ told_of_none none head number }
+{
+    match none {
+        NoneDue::Unheld => refuse(number, TraceFault::NotDue, WasDue::Head),
+        NoneDue::Worn { from, to } => {
+            refuse(number, TraceFault::NotDue, WasDue::Worn { from, to, head })
         }
+        NoneDue::NoMemory(no) => JudgeError::NoMemory(no),
     }
 }
 

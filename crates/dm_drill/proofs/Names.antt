@@ -1,5 +1,9 @@
 -- What the proofs of this crate name of what lies below it.
 pub use Rattle.std.proofs.Common.{set}
+pub use Rattle.std.proofs.lemmas.Bool.{eq-eqb, ne_eqb}
+pub use Rattle.std.specs.Prelude.{if◌then◌else◌}
+pub use Rattle.dm_message.specs.Kinds.{number_of}
+pub use Rattle.dm_message.specs.declared.kind.MessageKind.{MessageKind}
 pub use Rattle.dm_text.proofs.Names.{take_more}
 pub use Rattle.dm_world.proofs.Names.{append-nil, map, world_is_quiet}
 pub use Rattle.dm_run.proofs.Carried.{Carried, Carries, carried_wears, carried_world}
@@ -13,7 +17,7 @@ pub use Rattle.dm_run.specs.declared.way.Way.{Way}
 pub use Rattle.dm_drill.specs.Counts.{counted_as, nothing, one_more, shown, with_group}
 unfoldable pub use Rattle.dm_drill.specs.Counts.{with_group_lines, with_groups}
 pub use Rattle.dm_drill.specs.Drilled.{Came, DrillIsBegun, DrillIsOfFirst, DrillIsWhole, DrillWears, Ended, IsCounted, IsThrough, Stopped, SumsUp, TellsQuiet, text_shown}
-pub use Rattle.dm_drill.specs.Kinds.{KindTotal, kind_line, kind_shown, with_put}
+pub use Rattle.dm_drill.specs.Kinds.{AreNumbered, KindTotal, kind_line, kind_shown, one_more_of, with_put}
 unfoldable pub use Rattle.dm_drill.specs.Kinds.{kind_lines}
 pub use Rattle.dm_drill.specs.Reported.{told}
 pub use Rattle.dm_drill.specs.Totals.{Totals}

@@ -1,38 +1,5 @@
--- Counts of kinds, one after another.
-use Rattle.dm_drill.proofs.Names.{◌≡◌, ℕ, zero, suc, ◌+◌, ◌<◌, List, [], ◌∷◌, ◌++◌, length, take, get_or, set, map, refl, ap, ◌∙◌, sym, arith, append_assoc, append-nil, take_more, KindTotal, kind_line, kind_lines}
-
--- what lists of elements show, of which the first so many were changed
-module _ {X Y : Type 0} (shown : X → Y) (f : Y → Y) where
-  abbrev pub first_told : ℕ → List Y → List Y
-  first_told zero ys = ys
-  first_told (suc n) [] = []
-  first_told (suc n) (y ∷ ys) = f y ∷ first_told n ys
-
-  told_suc : (n : ℕ) (xs : List X) (ys : List Y) (x d : X) → n < length xs → map shown xs ≡ first_told n ys → shown x ≡ f (shown (get_or xs n d)) → map shown (set xs n x) ≡ first_told (suc n) ys
-  told_suc n [] ys x d lt h e = absurd (omega (arith, lt))
-  told_suc zero (v ∷ vs) [] x d lt h e = cc
-  told_suc zero (v ∷ vs) (y ∷ ys) x d lt h e =
-      let one : shown v ≡ y = cc in
-      let others : map shown vs ≡ ys = cc in
-      λ i. (e ∙ ap f one) i ∷ others i
-  told_suc (suc n) (v ∷ vs) [] x d lt h e = cc
-  told_suc (suc n) (v ∷ vs) (y ∷ ys) x d lt h e =
-      let one : shown v ≡ f y = cc in
-      let others : map shown vs ≡ first_told n ys = cc in
-      let more = told_suc n vs ys x d (omega (arith, lt)) others e in
-      λ i. one i ∷ more i
-
-  -- one more was changed
-  pub told_next : (n : ℕ) (xs : List X) (ys : List Y) (x d : X) → n < length xs → map shown xs ≡ first_told n ys → shown x ≡ f (shown (get_or xs n d)) → map shown (set xs n x) ≡ first_told (n + 1) ys
-  told_next n xs ys x d lt h e = told_suc n xs ys x d lt h e ∙ (let one : suc n ≡ n + 1 = omega arith in ap (λ k. first_told k ys) one)
-
-  pub all_told : (ys : List Y) → first_told (length ys) ys ≡ map f ys
-  all_told [] = refl
-  all_told (y ∷ ys) = ap (λ zs. f y ∷ zs) (all_told ys)
-
-pub told_length : {X Y : Type 0} (shown : X → Y) (xs : List X) → length (map shown xs) ≡ length xs
-told_length shown [] = refl
-told_length shown (x ∷ xs) = ap suc (told_length shown xs)
+-- Lines of counts, one after another.
+use Rattle.dm_drill.proofs.Names.{◌≡◌, ℕ, ◌+◌, ◌<◌, List, [], ◌∷◌, ◌++◌, length, take, get_or, map, refl, ap, ◌∙◌, sym, append_assoc, append-nil, take_more, KindTotal, kind_line, kind_lines}
 
 -- no line
 pub lines_none : kind_lines [] ≡ []

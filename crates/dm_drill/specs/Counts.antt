@@ -11,7 +11,7 @@ use Rattle.std.specs.declared.option.Option.TheVariants.{None, Some}
 use Rattle.dm_drill.specs.declared.counts.Counted.{Counted}
 use Rattle.dm_drill.specs.declared.counts.Counted.TheVariants as counted_
 use Rattle.dm_drill.specs.declared.counts.Counts.{Counts}
-use Rattle.dm_drill.specs.Kinds.{is_between, kind_shown, no_kinds, with_put}
+use Rattle.dm_drill.specs.Kinds.{is_between, no_kinds, with_put}
 use Rattle.dm_drill.specs.Totals.{Totals}
 
 -- a process has come to the end of its move, at its new machine
@@ -116,5 +116,5 @@ shown c = record {
   stayed = vec_len c.stayed.marks;
   forwarded = vec_len c.forwarded.marks;
   held = vec_len c.held.marks;
-  kinds = map kind_shown c.kinds;
+  kinds = c.kinds;
 }

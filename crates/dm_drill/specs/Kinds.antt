@@ -1,5 +1,5 @@
 -- How many messages of each kind were put.
-use Rattle.std.specs.Prelude.{ℕ, ◌+◌, ◌==◌, nat_lt, Bool, not, if◌then◌else◌, codes, List, [], ◌∷◌, ◌++◌, map, vec_len}
+use Rattle.std.specs.Prelude.{◌≡◌, ⊤, ℕ, ◌+◌, ◌==◌, nat_lt, Bool, not, if◌then◌else◌, codes, List, [], ◌∷◌, ◌++◌, map, vec_len}
 use Rattle.std.specs.Fmt.{decimal}
 use Rattle.dm_message.specs.declared.kind.MessageKind.{MessageKind}
 use Rattle.dm_message.specs.Kinds.{all_kinds, number_of, word_of}
@@ -17,6 +17,11 @@ none_of kind = record { kind = kind; all = 0; between = 0 }
 -- none of any kind, by the kinds' numbers
 abbrev pub no_kinds : List KindTotal
 no_kinds = map none_of all_kinds
+
+-- their kinds have the numbers from this one on
+abbrev pub AreNumbered : ℕ → List KindTotal → Type 0
+AreNumbered n [] = ⊤
+AreNumbered n (t ∷ ts) = (number_of t.kind ≡ n) × AreNumbered (n + 1) ts
 
 -- a message was put from one machine to another, or to the same
 abbrev pub is_between : ℕ → ℕ → Bool

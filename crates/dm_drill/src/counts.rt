@@ -1,13 +1,16 @@
 //! What a drill counts of the lines that are printed.
 ghost use Rattle.std.specs.Prelude.{◌≡◌, OnOk, Some};
+ghost use Rattle.std.specs.List.{All};
+ghost use Rattle.dm_text.specs.Fits.{LineFits};
 ghost use Rattle.dm_drill.specs.Counts.{shown, counted_as, sort_of_label, nothing, one_more, sort_of_step, with_group, with_group_lines};
 
-use crate::kinds::{KINDS, KindTally, add_put, no_kinds};
+use crate::kinds::Kinds;
 use crate::tally::Tally;
 use dm_line::line::{Line, Stage};
 use dm_memory::NoMemory;
 use dm_message::MessageKind;
 use dm_onekernel::Label;
+use dm_text::back::line_fits;
 use std::alloc::Global;
 
 /// As what a line is counted.
@@ -41,8 +44,8 @@ pub struct Counts {
     pub stayed: Tally,
     pub forwarded: Tally,
     pub held: Tally,
-    /// Of the messages that were put, a count for each kind, by the kinds' numbers.
-    pub kinds: [KindTally; KINDS],
+    /// Of the messages that were put, a count for each kind.
+    pub kinds: Kinds,
 }
 
 impl Counts {
@@ -62,13 +65,14 @@ impl Counts {
             stayed: Tally::new(alloc),
             forwarded: Tally::new(alloc),
             held: Tally::new(alloc),
-            kinds: no_kinds(alloc),
+            kinds: Kinds::new(alloc),
         }
     }
 
     /// Counts a group and its lines.
     pub fn add_group(&mut self, lines: &[Line]) -> Result<(), NoMemory>
-        ensures { OnOk result (shown self.new ≡ with_group (shown self.old) lines.now) }
+        ensures counted { OnOk result (shown self.new ≡ with_group (shown self.old) lines.now) }
+        ensures fits { OnOk result (All LineFits lines.now) }
     {
         self.groups.add_one()?;
         self.add_lines(lines)
@@ -76,9 +80,11 @@ impl Counts {
 
     /// Counts the lines of a group.
     fn add_lines(&mut self, lines: &[Line]) -> Result<(), NoMemory>
-        ensures { OnOk result (shown self.new ≡ with_group_lines (shown self.old) lines.now) }
+        ensures counted { OnOk result (shown self.new ≡ with_group_lines (shown self.old) lines.now) }
+        ensures fits { OnOk result (All LineFits lines.now) }
     {
         for line in lines {
+            line_fits(line);
             self.add(sort_of(line))?;
         }
         Ok(())
@@ -108,7 +114,7 @@ impl Counts {
         ensures { OnOk result (shown self.new ≡ one_more (Some (Counted.Put kind far)) (shown self.old)) }
     {
         self.puts.add_one()?;
-        add_put(&mut self.kinds, kind, far)
+        self.kinds.add_put(kind, far)
     }
 }
 

@@ -94,8 +94,8 @@ fn take_lines<K: Sink>(
     ensures last { StopsThere (K.last_failed out.new) result }
     ensures writes { K.faults out.old ≤ K.faults out.new }
 {
-    lines_fit(lines);
     if let Err(no) = counts.add_group(lines) {
+        lines_fit(lines);
         return Err(Stop::NoMemory(no));
     }
     if trace {

@@ -4,7 +4,6 @@ ghost use Rattle.dm_drill.specs.Counts.{shown};
 ghost use Rattle.dm_drill.specs.Reported.{counts_told, told};
 
 use crate::counts::Counts;
-use crate::kinds::write_kinds;
 use crate::summary::{write_arrivals, write_moves, write_quiet, write_summary, write_traffic};
 use dm_memory::NoMemory;
 
@@ -44,6 +43,6 @@ fn write_counts(counts: &Counts, quiet: bool, into: &mut Vec<u8>) -> Result<(), 
     write_traffic(counts, into)?;
     write_arrivals(counts, into)?;
     write_moves(counts, into)?;
-    write_kinds(&counts.kinds, into)?;
+    counts.kinds.write(into)?;
     write_quiet(quiet, into)
 }

@@ -67,6 +67,25 @@ impl<R: Files> RealShelf<R> {
     {
         self.faults
     }
+
+    /// Opens a file at its first byte, in place of the one that was open; none is open where that fails.
+    #[inline(never)]
+    fn open(&mut self, name: &str)
+        ensures { self.new.faults ≡ self.old.faults }
+    {
+        self.opened = open_file(&self.rt, name);
+    }
+
+    /// Closes the file behind a read that failed.
+    #[inline(never)]
+    fn close(&mut self)
+        ensures closes { self.new.opened ≡ None }
+        ensures one_more { self.new.faults ≡ counted self.old.faults }
+        ensures counts { self.old.faults ≤ self.new.faults }
+    {
+        self.opened = None;
+        self.faults = self.faults.saturating_add(1);
+    }
 }
 
 impl<R: Files> Shelf for RealShelf<R> {
@@ -95,19 +114,13 @@ impl<R: Files> Shelf for RealShelf<R> {
         ensures reads { IfOk result (λ n. ReadsReal R.File R.File.remaining self.old.opened self.new.opened name.now from n into.new) }
         ensures closes { OnErr result (self.new.opened ≡ None) }
     {
-        let opened = if from == 0 {
-            open(&self.rt, name)
-        } else {
-            self.opened.take()
-        };
-        match read_on(opened, name, from, into) {
-            Some((n, opened)) => {
-                self.opened = Some(opened);
-                Ok(n)
-            }
+        if from == 0 {
+            self.open(name);
+        }
+        match read_on(&mut self.opened, name, from, into) {
+            Some(n) => Ok(n),
             None => {
-                self.opened = None;
-                self.faults = self.faults.saturating_add(1);
+                self.close();
                 Err(Failed)
             }
         }
@@ -115,7 +128,7 @@ impl<R: Files> Shelf for RealShelf<R> {
 }
 
 /// Opens a file at its first byte.
-fn open<R: Files>(rt: &R, name: &str) -> Option<Opened<R::File>>
+fn open_file<R: Files>(rt: &R, name: &str) -> Option<Opened<R::File>>
     ensures named { IfSome result (λ o. o.name ≡ name.now) }
     ensures begins { IfSome result (λ o. o.place ≡ 0) }
 {
@@ -133,21 +146,21 @@ fn is_next<F>(opened: &Opened<F>, name: &str, from: u64) -> bool
     opened.name.as_str() == name && opened.place == from
 }
 
-/// Reads on in the open file, if it is this one and its next byte is the one at `from`.
+/// Reads on in the open file, which stays where it is, if it is this one and its next byte is the one at `from`.
 fn read_on<F: Read + Drop>(
-    opened: Option<Opened<F>>,
+    opened: &mut Option<Opened<F>>,
     name: &str,
     from: u64,
     into: &mut [u8],
-) -> Option<(usize, Opened<F>)>
-    ensures within { IfSome result (λ r. r.0 ≤ length into.old) }
-    ensures goes_on { IfSome result (λ r. GoesOn F F.remaining opened (Some r.1) name.now from r.0 into.new) }
+) -> Option<usize>
+    ensures within { IfSome result (λ n. n ≤ length into.old) }
+    ensures goes_on { IfSome result (λ n. GoesOn F F.remaining opened.old opened.new name.now from n into.new) }
 {
-    let mut opened = opened?;
-    if !is_next(&opened, name, from) {
+    let opened = opened.as_mut()?;
+    if !is_next(opened, name, from) {
         return None;
     }
     let n = opened.file.read(into).ok()?;
     opened.place = from.checked_add(n as u64)?;
-    Some((n, opened))
+    Some(n)
 }
