@@ -17,5 +17,3 @@ unfolding later_images
 images-more file place done vs i v within read =
     ap (λ ts. done ++ later_images file place i ts) (element_at vs i v within read)
     ∙ sym (append_assoc done (if nat_lt place i then whole_program_told file (view v) (text_at (codes "text") (view v)) else []) (later_images file place (i + 1) (items_view (drop (i + 1) vs))))
-
-pub ruleset later_image_lemmas = (images-end, images-more)

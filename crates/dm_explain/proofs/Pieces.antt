@@ -55,12 +55,4 @@ map-copied f done xs i d within = map-more f done xs i (get_or xs i d) within (g
 pub append_three : (done first second third : List ℕ) → ((done ++ first) ++ second) ++ third ≡ done ++ ((first ++ second) ++ third)
 append_three done first second third = ap (λ t. t ++ third) (append_assoc done first second) ∙ append_assoc done (first ++ second) third
 
-pub ruleset each_lemmas = (each-end, each-more)
-
 pub ruleset join_lemmas = (append_assoc)
-
-pub ruleset mapped_lemmas = (mapped-end, mapped-more)
-
-pub ruleset concat_lemmas = (concat-end)
-
-pub ruleset map_lemmas = (map-end)

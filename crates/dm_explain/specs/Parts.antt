@@ -30,6 +30,8 @@ integer_text (Some z) = integer_word z
 abbrev pub part_text : Part → List ℕ
 part_text (part.Text t) = t.now
 part_text (part.Count n) = decimal n
+part_text (part.Number n) = decimal n
+part_text (part.Byte n) = decimal n
 part_text (part.Process p) = pid_word p
 part_text (part.Integer o) = integer_text o
 part_text (part.Name t) = t.now

@@ -175,7 +175,6 @@ fn is_sort(sort: Sort, found: &Value) -> bool
 }
 
 /// Writes keys, each behind a space.
-#[tactic(auto, using(crate::proofs::Pieces::mapped_lemmas))]
 fn put_keys(into: &mut Vec<u8>, keys: &[Key]) -> Result<(), NoMemory>
     ensures { OnOk result (into.new.items ≡ into.old.items ++ keys_text (map wish_of keys.now)) }
 {
@@ -225,9 +224,9 @@ fn put_limit(into: &mut Vec<u8>, range: &Range, table: &Value) -> Result<(), NoM
             Part::Text(" = "),
             Part::Integer(integer_at(table, range.name)),
             Part::Text(", which must be "),
-            Part::Count(u64::from(range.least)),
+            Part::Number(range.least),
             Part::Text(" to "),
-            Part::Count(u64::from(range.most)),
+            Part::Number(range.most),
         ],
     )
 }

@@ -72,7 +72,6 @@ fn put_bad_named(
 }
 
 /// Writes the number of each process that has a name.
-#[tactic(auto, using(crate::proofs::Pieces::concat_lemmas))]
 fn put_numbers(into: &mut Vec<u8>, processes: &[BootProcess], word: &[u8]) -> Result<(), NoMemory>
     ensures { OnOk result (into.new.items ≡ into.old.items ++ concat (map (number_told word.now) processes.now)) }
 {

@@ -13,6 +13,8 @@ pub enum Part<'a> {
     /// Words of the program.
     Text(&'static str),
     Count(u64),
+    Number(u32),
+    Byte(u8),
     Process(Pid),
     /// An integer of a file, nothing where there is none.
     Integer(Option<i64>),
@@ -25,7 +27,6 @@ pub enum Part<'a> {
 }
 
 /// Writes parts, one behind another.
-#[tactic(auto, using(crate::proofs::Pieces::concat_lemmas))]
 pub fn put_parts(into: &mut Vec<u8>, parts: &[Part]) -> Result<(), NoMemory>
     ensures { OnOk result (into.new.items ≡ into.old.items ++ concat (map part_text parts.now)) }
 {
@@ -43,6 +44,8 @@ fn put_part(into: &mut Vec<u8>, part: &Part) -> Result<(), NoMemory>
     match *part {
         Part::Text(text) => put(into, text),
         Part::Count(n) => put_bare(into, &Word::Wide(n)),
+        Part::Number(n) => put_bare(into, &Word::Number(n)),
+        Part::Byte(n) => put_bare(into, &Word::Byte(n)),
         Part::Process(pid) => put_bare(into, &Word::Process(pid)),
         Part::Integer(Some(n)) => put_integer(into, n),
         Part::Integer(None) => Ok(()),
@@ -80,7 +83,7 @@ fn put_quoted(into: &mut Vec<u8>, text: &[u8]) -> Result<(), NoMemory>
 }
 
 /// Writes a text of a file; a byte that isn't printed is shown as a question mark.
-#[tactic(auto, unfolding(crate::specs::Parts::shown), using(crate::proofs::Pieces::map_lemmas))]
+#[tactic(auto, unfolding(crate::specs::Parts::shown))]
 fn put_shown(into: &mut Vec<u8>, text: &[u8]) -> Result<(), NoMemory>
     ensures { OnOk result (into.new.items ≡ into.old.items ++ shown text.now) }
 {

@@ -91,7 +91,7 @@ pub fn put_line(
             Part::Text("schedule, line "),
             Part::Count(line),
             Part::Text(": why "),
-            Part::Count(u64::from(fault.number())),
+            Part::Byte(fault.number()),
             Part::Text(": "),
         ],
     )?;
@@ -207,7 +207,7 @@ fn put_range(into: &mut Vec<u8>, machines: u8, bad: Option<Bad<'_>>) -> Result<(
 fn put_limits(into: &mut Vec<u8>, machines: u8, role: Role) -> Result<(), NoMemory>
     ensures { OnOk result (into.new.items ≡ into.old.items ++ range_words machines (operand_of role)) }
 {
-    let last = u64::from(machines.saturating_sub(1));
+    let last = machines.saturating_sub(1);
     match role {
         Role::Machine => put_machine_range(into, last),
         Role::Process => put_process_range(into, last),
@@ -217,14 +217,14 @@ fn put_limits(into: &mut Vec<u8>, machines: u8, role: Role) -> Result<(), NoMemo
 }
 
 /// Writes the range of a machine, by the last that there is.
-fn put_machine_range(into: &mut Vec<u8>, last: u64) -> Result<(), NoMemory>
+fn put_machine_range(into: &mut Vec<u8>, last: u8) -> Result<(), NoMemory>
     ensures { OnOk result (into.new.items ≡ into.old.items ++ concat (codes ", must be 0 to " ∷ decimal last ∷ [])) }
 {
-    put_parts(into, &[Part::Text(", must be 0 to "), Part::Count(last)])
+    put_parts(into, &[Part::Text(", must be 0 to "), Part::Byte(last)])
 }
 
 /// Writes the range of a process, by the last machine that there is.
-fn put_process_range(into: &mut Vec<u8>, last: u64) -> Result<(), NoMemory>
+fn put_process_range(into: &mut Vec<u8>, last: u8) -> Result<(), NoMemory>
     ensures { OnOk result (into.new.items ≡ into.old.items ++
         concat (codes ", must be H.N with H 0 to " ∷ decimal last ∷ codes " and N 0 to 4294967295" ∷ [])) }
 {
@@ -232,7 +232,7 @@ fn put_process_range(into: &mut Vec<u8>, last: u64) -> Result<(), NoMemory>
         into,
         &[
             Part::Text(", must be H.N with H 0 to "),
-            Part::Count(last),
+            Part::Byte(last),
             Part::Text(" and N 0 to 4294967295"),
         ],
     )

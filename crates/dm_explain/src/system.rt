@@ -32,9 +32,9 @@ fn put_settings(into: &mut Vec<u8>, boot: &Boot) -> Result<(), NoMemory>
             Part::Text("format "),
             Part::Text(format_word(boot.format)),
             Part::Text(", numbers "),
-            Part::Count(u64::from(boot.numbers)),
+            Part::Number(boot.numbers),
             Part::Text(", quantum "),
-            Part::Count(u64::from(boot.quantum)),
+            Part::Number(boot.quantum),
             Part::Text("\n"),
         ],
     )
@@ -50,7 +50,6 @@ fn format_word(format: Format) -> &'static str
 }
 
 /// Writes the machines, a line each.
-#[tactic(auto, using(crate::proofs::Pieces::each_lemmas))]
 fn put_machines(into: &mut Vec<u8>, machines: &[BootMachine]) -> Result<(), NoMemory>
     ensures { OnOk result (into.new.items ≡ into.old.items ++ each machine_told 0 machines.now) }
 {
@@ -70,16 +69,15 @@ fn put_machine(into: &mut Vec<u8>, i: usize, machine: &BootMachine) -> Result<()
             Part::Text("machine "),
             Part::Count(i as u64),
             Part::Text(": "),
-            Part::Count(u64::from(machine.slots)),
+            Part::Byte(machine.slots),
             Part::Text(" slots, "),
-            Part::Count(u64::from(machine.blocks)),
+            Part::Number(u32::from(machine.blocks)),
             Part::Text(" blocks\n"),
         ],
     )
 }
 
 /// Writes the images, a line each, with their names in these tables.
-#[tactic(auto, using(crate::proofs::Pieces::each_lemmas))]
 fn put_images(into: &mut Vec<u8>, images: &[BootImage], tables: &[Value]) -> Result<(), NoMemory>
     ensures { OnOk result (into.new.items ≡ into.old.items ++ each (image_told (items_view tables.now)) 0 images.now) }
 {
@@ -106,7 +104,7 @@ fn put_image(
             Part::Text(": "),
             Part::Quoted(text_in(tables, i, "name")),
             Part::Text(", "),
-            Part::Count(u64::from(image.blocks)),
+            Part::Number(u32::from(image.blocks)),
             Part::Text(" blocks, "),
             Part::Count(image.bytes.len() as u64),
             Part::Text(" bytes of text\n"),
@@ -115,7 +113,6 @@ fn put_image(
 }
 
 /// Writes the processes with their links, a line each, with the names of their images in these tables.
-#[tactic(auto, using(crate::proofs::Pieces::each_lemmas))]
 fn put_processes(
     into: &mut Vec<u8>,
     processes: &[BootProcess],
@@ -156,7 +153,6 @@ fn put_process<'b>(
 }
 
 /// Writes the links of a process, a line each.
-#[tactic(auto, using(crate::proofs::Pieces::each_lemmas))]
 fn put_links(into: &mut Vec<u8>, links: &[Link]) -> Result<(), NoMemory>
     ensures { OnOk result (into.new.items ≡ into.old.items ++ each link_told 0 links.now) }
 {
@@ -180,15 +176,15 @@ fn put_link(into: &mut Vec<u8>, k: usize, link: &Link) -> Result<(), NoMemory>
             Part::Text(" to "),
             Part::Process(link.addr.pid),
             Part::Text(" at "),
-            Part::Count(u64::from(link.addr.at)),
+            Part::Byte(link.addr.at),
             Part::Text(", code "),
-            Part::Count(u64::from(link.code)),
+            Part::Number(link.code),
             Part::Text(", channel "),
-            Part::Count(u64::from(link.channel)),
+            Part::Byte(link.channel),
             Part::Text(", area "),
-            Part::Count(u64::from(link.area.base)),
+            Part::Number(link.area.base),
             Part::Text(" "),
-            Part::Count(u64::from(link.area.len)),
+            Part::Number(link.area.len),
             Part::Text(rights_word(link.area.read, link.area.write)),
             Part::Text("\n"),
         ],

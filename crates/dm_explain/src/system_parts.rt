@@ -62,7 +62,6 @@ fn is_first(last: usize, place: usize, number: usize) -> bool
 }
 
 /// Writes each part, at its first process.
-#[tactic(auto, using(crate::proofs::Pieces::each_lemmas))]
 fn put_firsts(
     into: &mut Vec<u8>,
     processes: &[BootProcess],
@@ -108,7 +107,6 @@ fn put_part(
 }
 
 /// Writes those of a part that stand behind its first.
-#[tactic(auto, using(crate::proofs::Pieces::each_lemmas))]
 fn put_members(
     into: &mut Vec<u8>,
     processes: &[BootProcess],

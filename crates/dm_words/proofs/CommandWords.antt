@@ -1,8 +1,9 @@
 -- The words, as the command takes them.
 use Rattle.dm_words.proofs.Names.{◌≡◌, List, [], ◌∷◌, true, false, arith, refl, ap, sym, subst, ◌∙◌, None, if◌then◌else◌, ap₂, ne_eqb, option_and_then, Option, App, HasMatchesOf, Kinds, Text, fault_of, is_simple, is_simple_and_free}
-use Rattle.dm_words.proofs.Names.{subcommand_rows_of, Row, is_empty, ArgMatches, clap_on_literals, Bool, ◌&&◌, built, is_free_app, Request, demosmp, request_at, request_of, Some}
+use Rattle.dm_words.proofs.Names.{subcommand_rows_of, Row, is_empty, ArgMatches, clap_on_literals, Bool, ◌&&◌, built, is_free_app, Request, demosmp, request_at, request_of, Some, Form, ℕ, bytes_eq, command_of, cond, find, form_named, form_word, forms, map, request_in}
 use Rattle.std.specs.Prelude.{option_map}
 use Rattle.clap.specs.Words.{subcommand_of}
+use Rattle.dm_words.specs.declared.form.Form.TheVariants as form
 
 -- no option of the command has a rule on another
 is_free : is_simple_and_free demosmp ≡ true
@@ -57,3 +58,30 @@ used_rows name rows (Some b) n rs e f =
 pub unused : {B : Type 0} (name : B → Text) (rows : B → List Row) (o : Option B) → None ≡ option_map name o → option_and_then request_at (option_map (λ b. (name b, rows b)) o) ≡ None
 unused name rows None e = refl
 unused name rows (Some b) e = cc
+
+-- the command of a form has its word
+has_word : (f : Form) → (command_of f).shape.name ≡ form_word f
+has_word form.Run = refl
+has_word form.Check = refl
+has_word form.Chart = refl
+has_word form.Explain = refl
+has_word form.Count = refl
+has_word form.Look = refl
+has_word form.Explore = refl
+has_word form.Drill = refl
+
+-- what the matches of the command of a name ask for, by the form that has it
+by_form : (fs : List Form) (name : List ℕ) (rows : List Row) → request_in (map command_of fs) name rows ≡ option_and_then (λ f. (command_of f).request rows) (find (λ f. bytes_eq name (form_word f)) fs)
+by_form [] name rows = refl
+by_form (f ∷ fs) name rows =
+    ap (λ w. if bytes_eq name w then (command_of f).request rows else request_in (map command_of fs) name rows) (has_word f) ∙ by_test (bytes_eq name (form_word f)) (by_form fs name rows)
+  where
+    by_test : (b : Bool) → request_in (map command_of fs) name rows ≡ option_and_then (λ g. (command_of g).request rows) (find (λ g. bytes_eq name (form_word g)) fs)
+        → (if b then (command_of f).request rows else request_in (map command_of fs) name rows) ≡ option_and_then (λ g. (command_of g).request rows) (cond b (Some f) (find (λ g. bytes_eq name (form_word g)) fs))
+    by_test true more = refl
+    by_test false more = more
+
+pub named_request : (name word : List ℕ) (rows : List Row) (o : Option Form) → word ≡ name → o ≡ form_named word → option_and_then (λ f. (command_of f).request rows) o ≡ request_at (name, rows)
+unfolding form_named
+named_request name word rows o same is =
+    ap (option_and_then (λ f. (command_of f).request rows)) (is ∙ ap form_named same) ∙ sym (by_form forms name rows)

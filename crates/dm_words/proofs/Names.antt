@@ -25,12 +25,12 @@ pub use Rattle.clap.specs.declared.parser.matches.ValueSource.TheVariants.{Comma
 pub use Rattle.std.proofs.Common.{ap₂, tests}
 pub use Rattle.std.proofs.lemmas.Iterator.{YieldsList-from_slice}
 pub use Rattle.std.proofs.lemmas.Iterator.Search.{any_from_yields_List}
-pub use Rattle.std.proofs.lemmas.List.{drop_all, drop_more, map_more}
+pub use Rattle.std.proofs.lemmas.List.{at_drop_all, at_drop_more, drop_all, drop_more, map_more}
 pub use Rattle.std.proofs.lemmas.List.Sums.{sum_by-cons}
 pub use Rattle.std.proofs.lemmas.Result.{IfOk-weaker}
 pub use Rattle.std.specs.List.{count_by}
 pub use Rattle.std.specs.Option.{option_map_or}
-pub use Rattle.std.specs.Prelude.{IfOk, encode_utf8, find, fold, option_and_then, string_bytes, ⊤}
+pub use Rattle.std.specs.Prelude.{encode_utf8, find, fold, option_and_then, string_bytes, ⊤}
 pub use Rattle.std.specs.Str.{chars}
 pub use Rattle.dm_memory.specs.Clap.{FailsBy}
 pub use Rattle.dm_memory.specs.declared.of_clap.MatchesError.{MatchesError}
@@ -40,25 +40,26 @@ pub use Rattle.dm_schedule.proofs.Names.{take_all}
 pub use Rattle.dm_draw.proofs.Names.{inl, inr, rules, ◌⊎◌}
 pub use Rattle.dm_draw.specs.declared.drill.Shows.{Shows}
 pub use Rattle.dm_process.proofs.Names.{slice_get}
-pub use Rattle.dm_text.proofs.Names.{Err, Ok, length-append, ne_eqb}
+pub use Rattle.dm_text.proofs.Names.{Err, length-append, ne_eqb}
 pub use Rattle.dm_shape.proofs.Imports.{Bool, List, None, Option, Some, [], ap, arith, behind, bytes_eq, codes, drop, false, get_or, if◌then◌else◌, is_some, length, list_all, list_any, map, nat_le, nat_tests, not, option_map, read_u32}
 pub use Rattle.dm_shape.proofs.Imports.{read_u8, refl, subst, suc, sym, take, true, zero, ℕ, ◌&&◌, ◌++◌, ◌+◌, ◌-◌, ◌<◌, ◌||◌, ◌∙◌, ◌∷◌, ◌≡◌, ◌≤◌}
-pub use Rattle.dm_words.specs.Arguments.{HasOptions, IsOption, option_rule, with_options}
-pub use Rattle.dm_words.specs.ChartWords.{chart_command, chart_request, charting, group_in, takes_chart}
-pub use Rattle.dm_words.specs.CheckWords.{check_command, check_request, checking, is_just_one}
-pub use Rattle.dm_words.specs.CountWords.{count_command, count_request}
-pub use Rattle.dm_words.specs.DrillWords.{IsWithin, OwnIsWithin, drawn_by, drill_by, drill_command, drill_request, has_system, if_within, lines_asked, machines_asked, own_by, run_by, schedule_of, seed_of, shows_by, trace_of}
-pub use Rattle.dm_words.specs.ExplainWords.{explain_command, explaining}
-pub use Rattle.dm_words.specs.ExploreWords.{ExploreIsWithin, acks_of, all_read, depth_of, exploration_of, explore_command, explore_request, exploring, few_of, filling, listed, looking_for, most_in, most_of, with_names, with_numbers}
+pub use Rattle.dm_words.specs.Arguments.{HasOptions, IsOption, form_shape, option_rule, with_options, with_shapes}
+pub use Rattle.dm_words.specs.ChartWords.{chart_request, charting, group_in, takes_chart}
+pub use Rattle.dm_words.specs.CheckWords.{check_request, checking, is_just_one}
+pub use Rattle.dm_words.specs.CountWords.{count_request}
+pub use Rattle.dm_words.specs.DrillWords.{IsWithin, OwnIsWithin, drawn_by, drill_by, drill_request, has_system, if_within, lines_asked, machines_asked, own_by, run_by, schedule_of, seed_of, shows_by, trace_of}
+pub use Rattle.dm_words.specs.ExplainWords.{explaining}
+pub use Rattle.dm_words.specs.ExploreWords.{ExploreIsWithin, acks_of, all_read, depth_of, exploration_of, explore_request, exploring, few_of, filling, listed, looking_for, most_in, most_of, with_names, with_numbers}
 pub use Rattle.dm_words.specs.FileWords.{both_files}
-pub use Rattle.dm_words.specs.LookWords.{groups_of, look_command, look_request, looking, names_of}
+pub use Rattle.dm_words.specs.LookWords.{groups_of, look_request, looking, names_of}
 pub use Rattle.dm_words.specs.Request.{Chart, Check, CheckLabels, Count, Drill, Explain, Explore, Judge, Look, OwnDrill, Request, Run}
 pub use Rattle.dm_words.specs.RunWords.{run_command, run_request}
-pub use Rattle.dm_words.specs.Usage.{On, Wrong, at_end, behind_name, command_told, form_named, is_bad_value, names, on, step, value_among, value_here}
-unfoldable pub use Rattle.dm_words.specs.Usage.{bad_value_of, is_named, usage_pieces, value_of, walk}
-pub use Rattle.dm_words.specs.Words.{AreTaken, Command, HasShape, IsTaken, bare, commands, demosmp, request_at, request_in, request_of}
+pub use Rattle.dm_words.specs.Usage.{On, Wrong, at_end, behind_name, command_told, form_word, forms, is_bad_value, names, on, step, value_among, value_here}
+unfoldable pub use Rattle.dm_words.specs.Usage.{bad_value_of, form_named, is_named, usage_pieces, value_of, walk}
+pub use Rattle.dm_words.specs.Words.{AreTaken, Command, HasShape, IsTaken, bare, command_of, commands, demosmp, request_at, request_in, request_of}
 pub use Rattle.dm_words.specs.Written.{is_filled, is_text, written_move, written_name}
 unfoldable pub use Rattle.dm_words.specs.Written.{are_words}
+pub use Rattle.dm_words.specs.declared.argument.CommandForm.{CommandForm}
 pub use Rattle.dm_words.specs.declared.argument.CommandOption.{CommandOption}
 pub use Rattle.dm_words.specs.declared.explore.Exploration.{Exploration}
 pub use Rattle.dm_words.specs.declared.explore.WrittenMove.{WrittenMove}

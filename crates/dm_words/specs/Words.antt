@@ -1,5 +1,5 @@
 -- The words of the command line, as `clap` takes them, and what they ask for.
-use Rattle.std.specs.Prelude.{◌≡◌, ⊤, ℕ, Bool, true, List, [], ◌∷◌, codes, option_and_then, option_map, if◌then◌else◌}
+use Rattle.std.specs.Prelude.{◌≡◌, ⊤, ℕ, Bool, true, List, [], ◌∷◌, codes, map, option_and_then, option_map, if◌then◌else◌}
 use Rattle.std.specs.Str.{bytes_eq}
 use Rattle.std.specs.declared.option.Option.{Option}
 use Rattle.std.specs.declared.option.Option.TheVariants.{None, Some}
@@ -8,6 +8,8 @@ use Rattle.clap.specs.Simple.{App, Shape, app_of, new_shape, subcommand_of, with
 use Rattle.clap.specs.Faults.{fault_of}
 use Rattle.clap.specs.Built.{AddsSubcommand}
 use Rattle.clap.specs.declared.builder.command.Command.{Command as TheCommand}
+use Rattle.dm_words.specs.declared.form.Form.{Form}
+use Rattle.dm_words.specs.declared.form.Form.TheVariants as form
 use Rattle.dm_words.specs.declared.words.Request.{Request as TheRequest}
 use Rattle.dm_words.specs.declared.words.Request.TheVariants as the
 use Rattle.dm_words.specs.Request.{Request, Chart, Check, Count, Drill, Explain, Explore, Judge, OwnDrill, Run, Look, CheckLabels}
@@ -19,6 +21,7 @@ use Rattle.dm_words.specs.ExplainWords.{explain_command, explain_request, takes_
 use Rattle.dm_words.specs.ExploreWords.{ExploreIsWithin, explore_command, explore_request, takes_explore}
 use Rattle.dm_words.specs.LookWords.{has_groups, look_command, look_request}
 use Rattle.dm_words.specs.RunWords.{run_command, run_request}
+use Rattle.dm_words.specs.Usage.{forms}
 
 -- a command: its name and its options, which of their values it takes, and what its matches ask for
 pub record Command : Type 0 where
@@ -30,17 +33,20 @@ pub record Command : Type 0 where
 abbrev pub any : List Row → Bool
 any rows = true
 
--- the commands of the program, a row each
+-- that of a form, a row each
+abbrev pub command_of : Form → Command
+command_of form.Run = record { shape = run_command; takes = any; request = run_request }
+command_of form.Check = record { shape = check_command; takes = has_just_one; request = check_request }
+command_of form.Chart = record { shape = chart_command; takes = takes_chart; request = chart_request }
+command_of form.Explain = record { shape = explain_command; takes = takes_explain; request = explain_request }
+command_of form.Count = record { shape = count_command; takes = any; request = count_request }
+command_of form.Look = record { shape = look_command; takes = has_groups; request = look_request }
+command_of form.Explore = record { shape = explore_command; takes = takes_explore; request = explore_request }
+command_of form.Drill = record { shape = drill_command; takes = takes_drill; request = drill_request }
+
+-- the commands of the program
 abbrev pub commands : List Command
-commands =
-    record { shape = run_command; takes = any; request = run_request } ∷
-    record { shape = check_command; takes = has_just_one; request = check_request } ∷
-    record { shape = chart_command; takes = takes_chart; request = chart_request } ∷
-    record { shape = explain_command; takes = takes_explain; request = explain_request } ∷
-    record { shape = count_command; takes = any; request = count_request } ∷
-    record { shape = look_command; takes = has_groups; request = look_request } ∷
-    record { shape = explore_command; takes = takes_explore; request = explore_request } ∷
-    record { shape = drill_command; takes = takes_drill; request = drill_request } ∷ []
+commands = map command_of forms
 
 abbrev pub with_commands : App → List Command → App
 with_commands a [] = a

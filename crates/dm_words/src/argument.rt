@@ -26,6 +26,13 @@ pub(crate) enum CommandOption<'a> {
     Flag(&'a str),
 }
 
+/// A command of the program: its word and its options.
+#[derive(Clone, Copy)]
+pub(crate) struct CommandForm<'a> {
+    pub name: &'a str,
+    pub options: &'a [CommandOption<'a>],
+}
+
 /// A command of this name that takes these options.
 pub(crate) fn with_options<'a>(
     alloc: Global,

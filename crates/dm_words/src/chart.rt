@@ -1,31 +1,25 @@
 //! The words of the command `chart`.
-ghost use Rattle.std.specs.Prelude.{◌≡◌, option_and_then, option_map, IfOk, IfSome};
+ghost use Rattle.std.specs.Prelude.{◌≡◌, option_and_then, option_map, IfSome};
 ghost use Rattle.clap.specs.Walk.{first_of};
 ghost use Rattle.clap.specs.Words.{found_of, rows_of};
-ghost use Rattle.dm_words.specs.ChartWords.{chart_command as chart_shape, chart_request as chart_asked, charting, group_in, is_group_or_none, takes_chart};
-ghost use Rattle.dm_words.specs.Words.{HasShape, IsInRange, request_said};
+ghost use Rattle.dm_words.specs.ChartWords.{chart_request as chart_asked, charting, group_in, is_group_or_none, takes_chart};
+ghost use Rattle.dm_words.specs.Words.{IsInRange, request_said};
 
-use crate::argument::{CommandOption, value, with_options};
+use crate::argument::{CommandForm, CommandOption, value};
 use crate::words::Request;
-use clap::{ArgMatches, Command};
-use dm_memory::NoMemory;
+use clap::ArgMatches;
 use dm_shape::names::count;
-use std::alloc::Global;
-
-/// The options of `chart`.
-const OPTIONS: [CommandOption<'static>; 4] = [
-    CommandOption::Needed("boot"),
-    CommandOption::Needed("schedule"),
-    CommandOption::Free("from"),
-    CommandOption::Free("to"),
-];
 
 /// The command `chart`.
-pub fn chart_command<'a>(alloc: Global) -> Result<Command<'a>, NoMemory>
-    ensures { IfOk result (HasShape chart_shape) }
-{
-    with_options(alloc, "chart", &OPTIONS)
-}
+pub(crate) const COMMAND: CommandForm<'static> = CommandForm {
+    name: "chart",
+    options: &[
+        CommandOption::Needed("boot"),
+        CommandOption::Needed("schedule"),
+        CommandOption::Free("from"),
+        CommandOption::Free("to"),
+    ],
+};
 
 /// The two files that the matches of `chart` name, and the numbers of the groups from which and to which it is to draw.
 pub fn chart_request<'a>(matches: &ArgMatches<'a>) -> Option<Request<'a>>

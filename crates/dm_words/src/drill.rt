@@ -1,37 +1,31 @@
 //! The words of the command `drill`.
-ghost use Rattle.std.specs.Prelude.{◌≡◌, ◌≤◌, IfOk, IfSome, option_map};
+ghost use Rattle.std.specs.Prelude.{◌≡◌, ◌≤◌, IfSome, option_map};
 ghost use Rattle.clap.specs.Words.{found_of, rows_of};
-ghost use Rattle.dm_words.specs.DrillWords.{drill_command as drill_shape, drill_request as drill_asked, lines_asked, lines_in, machines_asked, machines_in, own_by, run_by, schedule_of, seed_of, shows_by, trace_of};
-ghost use Rattle.dm_words.specs.Words.{HasShape, IsInRange, request_said};
+ghost use Rattle.dm_words.specs.DrillWords.{drill_request as drill_asked, lines_asked, lines_in, machines_asked, machines_in, own_by, run_by, schedule_of, seed_of, shows_by, trace_of};
+ghost use Rattle.dm_words.specs.Words.{IsInRange, request_said};
 
-use crate::argument::{CommandOption, is_set, value, with_options};
+use crate::argument::{CommandForm, CommandOption, is_set, value};
 use crate::words::Request;
-use clap::{ArgMatches, Command};
+use clap::ArgMatches;
 use dm_draw::drill::{Drill, OwnDrill, Shows};
 use dm_link::MACHINES;
-use dm_memory::NoMemory;
 use dm_shape::names::{byte, count};
-use std::alloc::Global;
 
 /// The most directives that a drill draws.
 pub const MOST_LINES: u32 = 10_000;
 
-/// The options of `drill`.
-const OPTIONS: [CommandOption<'static>; 6] = [
-    CommandOption::Needed("seed"),
-    CommandOption::Needed("lines"),
-    CommandOption::Free("machines"),
-    CommandOption::Free("boot"),
-    CommandOption::Flag("trace"),
-    CommandOption::Flag("schedule"),
-];
-
 /// The command `drill`.
-pub fn drill_command<'a>(alloc: Global) -> Result<Command<'a>, NoMemory>
-    ensures { IfOk result (HasShape drill_shape) }
-{
-    with_options(alloc, "drill", &OPTIONS)
-}
+pub(crate) const COMMAND: CommandForm<'static> = CommandForm {
+    name: "drill",
+    options: &[
+        CommandOption::Needed("seed"),
+        CommandOption::Needed("lines"),
+        CommandOption::Free("machines"),
+        CommandOption::Free("boot"),
+        CommandOption::Flag("trace"),
+        CommandOption::Flag("schedule"),
+    ],
+};
 
 /// The drill that the matches of `drill` ask for, where its numbers are in their ranges.
 pub fn drill_request<'a>(matches: &ArgMatches<'a>) -> Option<Request<'a>>

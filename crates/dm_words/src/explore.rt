@@ -1,17 +1,15 @@
 //! The words of the command `explore`.
-ghost use Rattle.std.specs.Prelude.{◌≡◌, ◌≤◌, IfOk, IfSome, None, Some, length, map, option_map};
+ghost use Rattle.std.specs.Prelude.{◌≡◌, ◌≤◌, IfSome, None, Some, length, map, option_map};
 ghost use Rattle.clap.specs.Words.{found_of, rows_of};
-ghost use Rattle.dm_words.specs.ExploreWords.{ExploreIsWithin, all_read, depth_in, depth_of, exploration_of, explore_command as explore_shape, explore_request as explore_asked, exploring, few_of, filling, in_places, listed, most_in, most_of, with_names, with_numbers};
-ghost use Rattle.dm_words.specs.Words.{HasShape, IsInRange, request_said};
+ghost use Rattle.dm_words.specs.ExploreWords.{ExploreIsWithin, all_read, depth_in, depth_of, exploration_of, explore_request as explore_asked, exploring, few_of, filling, in_places, listed, most_in, most_of, with_names, with_numbers};
+ghost use Rattle.dm_words.specs.Words.{IsInRange, request_said};
 ghost use Rattle.dm_words.specs.Written.{written_move, written_name};
 
-use crate::argument::{CommandOption, is_set, value, values, with_options};
+use crate::argument::{CommandForm, CommandOption, is_set, value, values};
 use crate::words::Request;
 use crate::written::{is_text, written_move, written_name};
-use clap::{ArgMatches, Command};
-use dm_memory::NoMemory;
+use clap::ArgMatches;
 use dm_shape::names::{byte, count};
-use std::alloc::Global;
 
 /// The most names that an option may say, in all its uses.
 pub const MOST_NAMES: usize = 16;
@@ -55,26 +53,22 @@ pub struct Exploration {
     pub acks: bool,
 }
 
-/// The options of `explore`.
-const OPTIONS: [CommandOption<'static>; 10] = [
-    CommandOption::Needed("boot"),
-    CommandOption::Needed("depth"),
-    CommandOption::Free("line"),
-    CommandOption::Many("stuck"),
-    CommandOption::Many("move"),
-    CommandOption::Many("calloff"),
-    CommandOption::Free("ticks"),
-    CommandOption::Free("repeats"),
-    CommandOption::Flag("acks"),
-    CommandOption::Free("most"),
-];
-
 /// The command `explore`.
-pub fn explore_command<'a>(alloc: Global) -> Result<Command<'a>, NoMemory>
-    ensures { IfOk result (HasShape explore_shape) }
-{
-    with_options(alloc, "explore", &OPTIONS)
-}
+pub(crate) const COMMAND: CommandForm<'static> = CommandForm {
+    name: "explore",
+    options: &[
+        CommandOption::Needed("boot"),
+        CommandOption::Needed("depth"),
+        CommandOption::Free("line"),
+        CommandOption::Many("stuck"),
+        CommandOption::Many("move"),
+        CommandOption::Many("calloff"),
+        CommandOption::Free("ticks"),
+        CommandOption::Free("repeats"),
+        CommandOption::Flag("acks"),
+        CommandOption::Free("most"),
+    ],
+};
 
 /// What the matches of `explore` ask for, where its numbers are in their ranges, and a line or processes are looked for.
 pub fn explore_request<'a>(matches: &ArgMatches<'a>) -> Option<Request<'a>>

@@ -1,59 +1,53 @@
 //! The words of the commands that name files alone: `run`, `check`, `explain` and `count`.
-ghost use Rattle.std.specs.Prelude.{◌≡◌, IfOk, IfSome, Some, option_map};
+ghost use Rattle.std.specs.Prelude.{◌≡◌, IfSome, Some, option_map};
 ghost use Rattle.clap.specs.Words.{found_of, rows_of};
-ghost use Rattle.dm_words.specs.CheckWords.{check_command as check_shape, check_request as check_asked, checking};
+ghost use Rattle.dm_words.specs.CheckWords.{check_request as check_asked, checking};
 ghost use Rattle.dm_words.specs.CountWords.{count_request as count_asked};
-ghost use Rattle.dm_words.specs.ExplainWords.{explain_command as explain_shape, explain_request as explain_asked, explaining};
-ghost use Rattle.dm_words.specs.FileWords.{file_command as file_shape};
+ghost use Rattle.dm_words.specs.ExplainWords.{explain_request as explain_asked, explaining};
 ghost use Rattle.dm_words.specs.RunWords.{run_request as run_asked};
-ghost use Rattle.dm_words.specs.Words.{HasShape, IsInRange, request_said};
+ghost use Rattle.dm_words.specs.Words.{IsInRange, request_said};
 
-use crate::argument::{CommandOption, value, with_options};
+use crate::argument::{CommandForm, CommandOption, value};
 use crate::words::Request;
-use clap::{ArgMatches, Command};
-use dm_memory::NoMemory;
-use std::alloc::Global;
+use clap::ArgMatches;
 
-/// The options of `check`.
-const CHECK_OPTIONS: [CommandOption<'static>; 3] = [
-    CommandOption::Needed("boot"),
-    CommandOption::Free("trace"),
-    CommandOption::Free("labels"),
-];
-
-/// The options of `explain`.
-const EXPLAIN_OPTIONS: [CommandOption<'static>; 3] = [
-    CommandOption::Needed("boot"),
-    CommandOption::Free("schedule"),
-    CommandOption::Free("trace"),
-];
-
-/// A command that names two files.
-pub fn file_command<'a>(
-    alloc: Global,
-    name: &'a str,
-    first: &'a str,
-    second: &'a str,
-) -> Result<Command<'a>, NoMemory>
-    ensures { IfOk result (HasShape (file_shape name.now first.now second.now)) }
-{
-    let options = [CommandOption::Needed(first), CommandOption::Needed(second)];
-    with_options(alloc, name, &options)
-}
+/// The command `run`.
+pub(crate) const RUN: CommandForm<'static> = CommandForm {
+    name: "run",
+    options: &[
+        CommandOption::Needed("boot"),
+        CommandOption::Needed("schedule"),
+    ],
+};
 
 /// The command `check`.
-pub fn check_command<'a>(alloc: Global) -> Result<Command<'a>, NoMemory>
-    ensures { IfOk result (HasShape check_shape) }
-{
-    with_options(alloc, "check", &CHECK_OPTIONS)
-}
+pub(crate) const CHECK: CommandForm<'static> = CommandForm {
+    name: "check",
+    options: &[
+        CommandOption::Needed("boot"),
+        CommandOption::Free("trace"),
+        CommandOption::Free("labels"),
+    ],
+};
 
 /// The command `explain`.
-pub fn explain_command<'a>(alloc: Global) -> Result<Command<'a>, NoMemory>
-    ensures { IfOk result (HasShape explain_shape) }
-{
-    with_options(alloc, "explain", &EXPLAIN_OPTIONS)
-}
+pub(crate) const EXPLAIN: CommandForm<'static> = CommandForm {
+    name: "explain",
+    options: &[
+        CommandOption::Needed("boot"),
+        CommandOption::Free("schedule"),
+        CommandOption::Free("trace"),
+    ],
+};
+
+/// The command `count`.
+pub(crate) const COUNT: CommandForm<'static> = CommandForm {
+    name: "count",
+    options: &[
+        CommandOption::Needed("boot"),
+        CommandOption::Needed("schedule"),
+    ],
+};
 
 /// The two files that the matches of `run` name.
 pub fn run_request<'a>(matches: &ArgMatches<'a>) -> Option<Request<'a>>

@@ -1,30 +1,24 @@
 //! The words of the command `look`.
-ghost use Rattle.std.specs.Prelude.{◌≡◌, option_map, IfOk, IfSome};
+ghost use Rattle.std.specs.Prelude.{◌≡◌, option_map, IfSome};
 ghost use Rattle.clap.specs.Words.{found_of, rows_of};
-ghost use Rattle.dm_words.specs.LookWords.{groups_of, look_command as look_shape, look_request as look_asked, looking};
-ghost use Rattle.dm_words.specs.Words.{HasShape, IsInRange, request_said};
+ghost use Rattle.dm_words.specs.LookWords.{groups_of, look_request as look_asked, looking};
+ghost use Rattle.dm_words.specs.Words.{IsInRange, request_said};
 
-use crate::argument::{CommandOption, is_set, value, with_options};
+use crate::argument::{CommandForm, CommandOption, is_set, value};
 use crate::words::Request;
-use clap::{ArgMatches, Command};
-use dm_memory::NoMemory;
+use clap::ArgMatches;
 use dm_shape::names::count;
-use std::alloc::Global;
-
-/// The options of `look`.
-const OPTIONS: [CommandOption<'static>; 4] = [
-    CommandOption::Needed("boot"),
-    CommandOption::Needed("schedule"),
-    CommandOption::Needed("at"),
-    CommandOption::Flag("names"),
-];
 
 /// The command `look`.
-pub fn look_command<'a>(alloc: Global) -> Result<Command<'a>, NoMemory>
-    ensures { IfOk result (HasShape look_shape) }
-{
-    with_options(alloc, "look", &OPTIONS)
-}
+pub(crate) const COMMAND: CommandForm<'static> = CommandForm {
+    name: "look",
+    options: &[
+        CommandOption::Needed("boot"),
+        CommandOption::Needed("schedule"),
+        CommandOption::Needed("at"),
+        CommandOption::Flag("names"),
+    ],
+};
 
 /// The two files and the number of groups that the matches of `look` name, and whether names are asked for.
 pub fn look_request<'a>(matches: &ArgMatches<'a>) -> Option<Request<'a>>

@@ -1,18 +1,17 @@
 //! The words of the command line, and what they ask for.
 ghost use Rattle.std.specs.Prelude.{◌≡◌, map, option_and_then, option_map, None, Some, IfOk, IfErr, IfSome};
-ghost use Rattle.clap.specs.Simple.{App, Shape};
 ghost use Rattle.clap.specs.Words.{app_of, found_of, rows_of, subcommand_rows_of, with_subcommand as with_shape};
+ghost use Rattle.dm_words.specs.Arguments.{form_shape, with_shapes};
 ghost use Rattle.dm_words.specs.Refused.{status_of_no};
-ghost use Rattle.dm_words.specs.Words.{HasShape, IsInRange, IsTaken, bare, demosmp, request_at, request_of, request_said};
+ghost use Rattle.dm_words.specs.Words.{IsInRange, IsTaken, bare, command_of, demosmp, request_at, request_of, request_said};
 
-use crate::chart::{chart_command, chart_request};
-use crate::drill::{drill_command, drill_request};
-use crate::explore::{Exploration, explore_command, explore_request};
-use crate::files::{
-    check_command, check_request, count_request, explain_command, explain_request, file_command,
-    run_request,
-};
-use crate::look::{look_command, look_request};
+use crate::argument::{CommandForm, with_options};
+use crate::chart::{self, chart_request};
+use crate::drill::{self, drill_request};
+use crate::explore::{self, Exploration, explore_request};
+use crate::files::{self, check_request, count_request, explain_request, run_request};
+use crate::form::Form;
+use crate::look::{self, look_request};
 use clap::{ArgMatches, Command};
 use dm_draw::drill::{Drill, OwnDrill};
 use dm_ending::status::Status;
@@ -112,10 +111,20 @@ pub fn read_words<'a>(alloc: Global, words: &'a [&'a str]) -> Result<Request<'a>
     ensures refused { IfErr result (λ e. e ≡ WordsError.Usage → IsTaken (map (λ w. w.now) words.now) → ⊥) }
     ensures usage { IfErr result (λ e. e ≡ WordsError.Usage → request_of (map (λ w. w.now) words.now) ≡ None) }
 {
-    let command = match command(alloc) {
-        Ok(command) => command,
-        Err(no) => return Err(WordsError::NoMemory(no)),
-    };
+    match command(alloc) {
+        Ok(command) => read_by(command, words),
+        Err(no) => Err(WordsError::NoMemory(no)),
+    }
+}
+
+/// The same by the command line of the program.
+fn read_by<'a>(command: Command<'a>, words: &'a [&'a str]) -> Result<Request<'a>, WordsError>
+    requires { app_of command ≡ demosmp }
+    ensures asks { IfOk result (λ r. request_of (map (λ w. w.now) words.now) ≡ Some (request_said r)) }
+    ensures within { IfOk result IsInRange }
+    ensures refused { IfErr result (λ e. e ≡ WordsError.Usage → IsTaken (map (λ w. w.now) words.now) → ⊥) }
+    ensures usage { IfErr result (λ e. e ≡ WordsError.Usage → request_of (map (λ w. w.now) words.now) ≡ None) }
+{
     match matches_from(command, words) {
         Ok(matches) => match request_in(&matches) {
             Some(request) => Ok(request),
@@ -126,20 +135,46 @@ pub fn read_words<'a>(alloc: Global, words: &'a [&'a str]) -> Result<Request<'a>
     }
 }
 
-/// The command line of the program, a row a command.
+/// The commands of the program, in their order.
+const COMMANDS: [CommandForm<'static>; 8] = [
+    files::RUN,
+    files::CHECK,
+    chart::COMMAND,
+    files::EXPLAIN,
+    files::COUNT,
+    look::COMMAND,
+    explore::COMMAND,
+    drill::COMMAND,
+];
+
+/// The command line of the program.
 fn command<'a>(alloc: Global) -> Result<Command<'a>, NoMemory>
     ensures { IfOk result (λ c. app_of c ≡ demosmp) }
 {
-    let run = file_command(alloc, "run", "boot", "schedule");
-    let line = with_command(Ok(bare(alloc)), run);
-    let line = with_command(line, check_command(alloc));
-    let line = with_command(line, chart_command(alloc));
-    let line = with_command(line, explain_command(alloc));
-    let count = file_command(alloc, "count", "boot", "schedule");
-    let line = with_command(line, count);
-    let line = with_command(line, look_command(alloc));
-    let line = with_command(line, explore_command(alloc));
-    with_command(line, drill_command(alloc))
+    with_commands(alloc, &COMMANDS)
+}
+
+/// The command line of the program with these commands.
+fn with_commands<'a>(alloc: Global, commands: &[CommandForm<'a>]) -> Result<Command<'a>, NoMemory>
+    ensures { IfOk result (λ c. app_of c ≡ with_shapes bare (map form_shape commands.now)) }
+{
+    let mut line = bare(alloc);
+    for command in commands {
+        line = with_command(alloc, line, command)?;
+    }
+    Ok(line)
+}
+
+/// A command line with one more command.
+fn with_command<'a>(
+    alloc: Global,
+    line: Command<'a>,
+    command: &CommandForm<'a>,
+) -> Result<Command<'a>, NoMemory>
+    ensures { IfOk result (λ c. app_of c ≡ with_shape (app_of line.entry) (form_shape command.now)) }
+{
+    let made = with_options(alloc, command.name, command.options)?;
+    with_subcommand(line, made)
 }
 
 /// The command line of the program, before its commands.
@@ -149,18 +184,6 @@ fn bare<'a>(alloc: Global) -> Command<'a>
     Command::new(alloc, "demosmp")
         .disable_help_subcommand(true)
         .subcommand_required(true)
-}
-
-/// The command line with one more command, where memory was there to make both so far.
-fn with_command<'a>(
-    line: Result<Command<'a>, NoMemory>,
-    made: Result<Command<'a>, NoMemory>,
-) -> Result<Command<'a>, NoMemory>
-    ensures { (a : App) (shape : Shape) → IfOk line.entry (λ c. app_of c ≡ a) → IfOk made.entry (HasShape shape) → IfOk result (λ c. app_of c ≡ with_shape a shape) }
-{
-    let line = line?;
-    let command = made?;
-    with_subcommand(line, command)
 }
 
 /// What the matches of the subcommand ask for.
@@ -174,34 +197,30 @@ fn request_in<'a>(matches: &ArgMatches<'a>) -> Option<Request<'a>>
     }
 }
 
-/// What the matches of the command of this name ask for, a row a command.
+/// What the matches of the command of this name ask for.
 fn request_of_command<'a>(name: &str, found: &ArgMatches<'a>) -> Option<Request<'a>>
     ensures asked { option_map request_said result ≡ request_at (name.now, rows_of (found_of found.now)) }
     ensures within { IfSome result IsInRange }
 {
-    if name == "run" {
-        return run_request(found);
+    match Form::from_word(name.as_bytes()) {
+        Some(form) => request_of_form(form, found),
+        None => None,
     }
-    if name == "check" {
-        return check_request(found);
+}
+
+/// The same of a command, a row each.
+fn request_of_form<'a>(form: Form, found: &ArgMatches<'a>) -> Option<Request<'a>>
+    ensures asked { option_map request_said result ≡ (command_of form).request (rows_of (found_of found.now)) }
+    ensures within { IfSome result IsInRange }
+{
+    match form {
+        Form::Run => run_request(found),
+        Form::Check => check_request(found),
+        Form::Chart => chart_request(found),
+        Form::Explain => explain_request(found),
+        Form::Count => count_request(found),
+        Form::Look => look_request(found),
+        Form::Explore => explore_request(found),
+        Form::Drill => drill_request(found),
     }
-    if name == "chart" {
-        return chart_request(found);
-    }
-    if name == "explain" {
-        return explain_request(found);
-    }
-    if name == "count" {
-        return count_request(found);
-    }
-    if name == "look" {
-        return look_request(found);
-    }
-    if name == "explore" {
-        return explore_request(found);
-    }
-    if name == "drill" {
-        return drill_request(found);
-    }
-    None
 }

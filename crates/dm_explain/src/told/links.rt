@@ -263,7 +263,7 @@ fn put_area(
         &LINK_RANGES,
         &[
             Part::Text("base and len are more than "),
-            Part::Count(u64::from(size)),
+            Part::Number(size),
             Part::Text(" together, the bytes of the memory of "),
             Part::Quoted(to),
         ],

@@ -120,7 +120,6 @@ fn put_program_at(
 }
 
 /// Writes each line that is refused of the texts of images that stand behind a place.
-#[tactic(auto, using(crate::proofs::LaterImages::later_image_lemmas))]
 fn put_later_images(
     alloc: Global,
     into: &mut Vec<u8>,

@@ -43,7 +43,7 @@ pub(super) fn put_title(into: &mut Vec<u8>, rule: BootRule) -> Result<(), NoMemo
         into,
         &[
             Part::Text("rule "),
-            Part::Count(u64::from(rule.number())),
+            Part::Byte(rule.number()),
             Part::Text(": "),
         ],
     )

@@ -203,7 +203,7 @@ fn put_range(into: &mut Vec<u8>, last: Last) -> Result<(), NoMemory>
     match last {
         Last::Nothing | Last::Text => Ok(()),
         Last::Multiple => put(into, ", must be 1 to 65536"),
-        Last::Number(most) | Last::Value(most) => put_most(into, u64::from(most)),
+        Last::Number(most) | Last::Value(most) => put_most(into, most),
         Last::Bytes | Last::Call => put(into, ", must be 0 to 255"),
         Last::Label => put(
             into,
@@ -213,10 +213,10 @@ fn put_range(into: &mut Vec<u8>, last: Last) -> Result<(), NoMemory>
 }
 
 /// Writes the most that a number may be.
-fn put_most(into: &mut Vec<u8>, most: u64) -> Result<(), NoMemory>
+fn put_most(into: &mut Vec<u8>, most: u32) -> Result<(), NoMemory>
     ensures { OnOk result (into.new.items ≡ into.old.items ++ most_told most) }
 {
-    put_parts(into, &[Part::Text(", must be 0 to "), Part::Count(most)])
+    put_parts(into, &[Part::Text(", must be 0 to "), Part::Number(most)])
 }
 
 /// Writes how many operands there must be, and how many there are.

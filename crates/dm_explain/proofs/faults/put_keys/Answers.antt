@@ -1,5 +1,5 @@
 use Rattle.dm_explain.proofs.Names.{◌≡◌, ◌+◌, ◌<◌, ◌++◌, List, ℕ, ap, append_assoc, codes, drop, get_or, keys_text, length, map, sym, ◌∙◌, wish_of}
-use Rattle.dm_explain.proofs.Pieces.{get_or_same, mapped-more}
+use Rattle.dm_explain.proofs.Pieces.{get_or_same, mapped-end, mapped-more}
 use Rattle.dm_explain.specs.declared.wanted.Key.{Key}
 use Rattle.dm_explain.proofs.faults.put_keys.Goals as goal
 
@@ -13,3 +13,6 @@ keys-more done mid after ks i d within first second =
 
 pub loop-key-preserved : goal.loop-key-preserved
 loop-key-preserved c = keys-more c.loop-key.into.items _ _ c.args.keys.now c.loop-key.key-index _ c.loop-key-test.true c.in_ok-put.ensures c.in_ok-put-2.ensures ∙ c.loop-key.invariant
+
+pub returns : goal.returns
+returns c = sym (mapped-end (λ w. codes " " ++ w.key) wish_of c.loop-key.into.items c.args.keys.now c.loop-key.key-index c.loop-key-test.false) ∙ c.loop-key.invariant

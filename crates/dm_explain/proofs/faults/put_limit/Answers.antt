@@ -3,4 +3,4 @@ use Rattle.dm_explain.proofs.faults.put_limit.Goals as goal
 
 pub returns : goal.returns
 unfolding limit_told
-returns c = rw (c.integer_at.ensures, c.from.ensures, c.from-2.ensures) at c.put_parts.ensures
+returns c = rw c.integer_at.ensures at c.put_parts.ensures
