@@ -4,7 +4,7 @@
     RT_JOBS=4 python3 measure/gate.py FILE
 
 At the top of the checkout, with nothing beside it. RT_JOBS is how many processors there are: each proof has one job then, and as
-many are done at once. It runs `rt ci --anew` on the processors that it is given, writes what that says to FILE, and looks at its
+many are done at once. It runs `rt ci` on the processors that it is given, writes what that says to FILE, and looks at its
 processes in /proc, twice a second. At the end it prints the table, the whole in processor minutes and minutes by the clock, and
 the last line of the run; its status is the run's.
 """
@@ -63,7 +63,7 @@ def listed(top):
 def main(log):
     top, began, seen = os.getcwd(), time.time(), {}
     with open(log, "w", encoding="utf-8") as out:
-        gate = subprocess.Popen(["rt", "ci", "--anew"], stdout=out, stderr=subprocess.STDOUT, start_new_session=True)
+        gate = subprocess.Popen(["rt", "ci"], stdout=out, stderr=subprocess.STDOUT, start_new_session=True)
         while gate.poll() is None:
             seen.update(seen_now(gate.pid))
             time.sleep(PAUSE)

@@ -1,8 +1,9 @@
 //! The landing of pieces at the mover.
-ghost use Rattle.std.specs.Prelude.{◌≡◌, ◌↔◌, ◌+◌, ◌≤◌, ◌<◌, IfOk, OnOk, Some, length};
+ghost use Rattle.std.specs.Prelude.{◌≡◌, ◌↔◌, ◌+◌, ◌≤◌, ◌<◌, IfOk, OnErr, OnOk, Some, length};
 ghost use Rattle.dm_message.specs.declared.What.TheVariants as what;
 ghost use Rattle.dm_message.specs.Lawful.{IsLawfulMessage};
 ghost use Rattle.dm_message.specs.Plain.{plain_message};
+ghost use Rattle.dm_process.specs.declared.Direction.TheVariants as direction;
 ghost use Rattle.dm_process.specs.Lawful.{IsLawfulProcess};
 ghost use Rattle.dm_onekernel.specs.declared.label.Reply.TheVariants as reply;
 ghost use Rattle.dm_datamove.specs.declared.Landed.TheVariants as landed_;
@@ -36,6 +37,7 @@ fn go_on(alloc: Global, process: &mut Process, rest: Rest, here: u8) -> Result<L
     requires counts { process.old.sent < u32.MAX }
     ensures landed { IfOk result (λ landed. landed ≡ (goes_on here process.old rest).landed) }
     ensures process { OnOk result (process.new ≡ (goes_on here process.old rest).process) }
+    ensures err { OnErr result ((process.new ≡ process.old) × (rest.dir ≡ direction.IntoArea)) }
 {
     let piece = piece_of(rest.left);
     let left = rest.left - piece;
@@ -66,7 +68,8 @@ fn land_first(
     requires own { rest.own + rest.left ≤ length process.old.memory }
     requires size { length process.old.memory ≤ MOST_MEMORY }
     requires counts { process.old.sent < u32.MAX }
-    ensures { IfOk result (λ landed. lands_what here process.old rest rest.dir what.now ≡ Some (record { landed = landed; process = process.new })) }
+    ensures exact { IfOk result (λ landed. lands_what here process.old rest rest.dir what.now ≡ Some (record { landed = landed; process = process.new })) }
+    ensures err { OnErr result (process.new ≡ process.old) }
 {
     match (rest.dir, what) {
         (Direction::FromArea, What::Block { bytes }) => {
@@ -90,7 +93,8 @@ fn land_awaited(
     requires lawful { IsLawfulProcess process.old }
     requires awaited { IsAwaited process.old.status message.now }
     requires counts { process.old.sent < u32.MAX }
-    ensures { IfOk result (λ landed. landing here process.old message.now.what process.old.status ≡ Some (record { landed = landed; process = process.new })) }
+    ensures exact { IfOk result (λ landed. landing here process.old message.now.what process.old.status ≡ Some (record { landed = landed; process = process.new })) }
+    ensures err { OnErr result (process.new ≡ process.old) }
 {
     let Status::Moving {
         dir,
@@ -115,7 +119,8 @@ fn land_awaited(
 }
 
 /// Lands the answer to the request that is under way at the mover, on machine `here`: the next request goes out, or the
-/// move is over. A stopped process's pieces land too. Only the bytes of a next request take memory.
+/// move is over. A stopped process's pieces land too. Only the bytes of a
+/// next request take memory; where it lacks, nothing has changed.
 pub fn land(
     alloc: Global,
     process: &mut Process,
@@ -128,6 +133,7 @@ pub fn land(
     requires awaited { IsAwaited process.old.status message.now }
     requires counts { process.old.sent < u32.MAX }
     ensures exact { IfOk result (λ landed. landing here process.old message.now.what process.old.status ≡ Some (record { landed = landed; process = process.new })) }
+    ensures err { OnErr result (process.new ≡ process.old) }
     ensures gone { IfOk result (λ landed. (landed ≡ landed_.Done reply.Gone) ↔ (message.now.what ≡ what.Gone)) }
     ensures plain { IfOk result (λ landed. plain_landed landed process.new ≡ plainly_landed process.old (plain_message message.now)) }
     ensures lawful { OnOk result (IsLawfulProcess process.new) }

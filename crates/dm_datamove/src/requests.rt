@@ -1,7 +1,8 @@
 //! Requests for pieces of a data move.
-ghost use Rattle.std.specs.Prelude.{◌≡◌, ◌+◌, ◌≤◌, ◌<◌, IfOk, OnOk, Some, length};
+ghost use Rattle.std.specs.Prelude.{◌≡◌, ◌+◌, ◌≤◌, ◌<◌, IfOk, OnErr, OnOk, Some, length};
 ghost use Rattle.dm_message.specs.Lawful.{IsLawfulMessage};
 ghost use Rattle.dm_message.specs.Plain.{plain_message};
+ghost use Rattle.dm_process.specs.declared.Direction.TheVariants as direction;
 ghost use Rattle.dm_process.specs.Lawful.{IsLawfulProcess};
 ghost use Rattle.dm_onekernel.specs.Pieces.{piece_of, requests};
 ghost use Rattle.dm_onekernel.specs.Plain.{plain_process};
@@ -24,10 +25,11 @@ pub fn piece_of(left: u32) -> u32
     left.min(MOST_BODY as u32)
 }
 
-/// What is asked for.
+/// What is asked for. Only bytes that are to be written take memory.
 fn request_of(alloc: Global, process: &Process, rest: Rest) -> Result<What, NoMemory>
     requires { rest.own + rest.left ≤ length process.now.memory }
-    ensures { IfOk result (λ what. what ≡ request_of process.now rest.dir rest.base rest.own rest.left) }
+    ensures what { IfOk result (λ what. what ≡ request_of process.now rest.dir rest.base rest.own rest.left) }
+    ensures err { OnErr result (rest.dir ≡ direction.IntoArea) }
 {
     let piece = piece_of(rest.left);
     match rest.dir {
@@ -56,6 +58,7 @@ pub fn send_request(
     requires counts { process.old.sent < u32.MAX }
     ensures message { IfOk result (λ message. message ≡ request here process.old rest) }
     ensures process { OnOk result (process.new ≡ moving process.old rest) }
+    ensures err { OnErr result ((process.new ≡ process.old) × (rest.dir ≡ direction.IntoArea)) }
 {
     let n = process.sent;
     let Rest {
@@ -88,7 +91,7 @@ pub fn send_request(
 }
 
 /// Sends the request for the first piece of what is left of a move, from machine `here`; the mover waits for its answer
-/// then. Only the bytes that are to be written take memory.
+/// then. Only the bytes that are to be written take memory; where it lacks, nothing has changed.
 pub fn request(
     alloc: Global,
     process: &mut Process,
@@ -101,6 +104,7 @@ pub fn request(
     requires counts { process.old.sent < u32.MAX }
     ensures message { IfOk result (λ message. message ≡ request here process.old rest) }
     ensures process { OnOk result (process.new ≡ moving process.old rest) }
+    ensures err { OnErr result (process.new ≡ process.old) }
     ensures plain { IfOk result (λ message. plain_requested (plain_message message) process.new ≡
         Some (requests process.old.pid (plain_process process.old) rest.dir rest.owner.pid rest.base rest.own rest.left)) }
     ensures lawful { OnOk result (IsLawfulProcess process.new) }

@@ -1,5 +1,5 @@
 //! The service of requests where the area is.
-ghost use Rattle.std.specs.Prelude.{◌≡◌, ◌<◌, IfOk, OnOk, Some, length};
+ghost use Rattle.std.specs.Prelude.{◌≡◌, ◌<◌, IfOk, OnErr, OnOk, Some, length};
 ghost use Rattle.dm_message.specs.Lawful.{IsLawfulMessage, IsLawfulWhat};
 ghost use Rattle.dm_message.specs.Plain.{plain_message};
 ghost use Rattle.dm_process.specs.Lawful.{IsLawfulProcess};
@@ -38,6 +38,7 @@ fn serve_what(alloc: Global, process: &mut Process, what: &What) -> Result<What,
     requires within { IsWithin (length process.old.memory) what.now }
     ensures answer { IfOk result (λ said. answer_of process.old what.now ≡ Some said) }
     ensures process { OnOk result (process.new ≡ after_serving process.old what.now) }
+    ensures err { OnErr result (process.new ≡ process.old) }
 {
     match what {
         What::Read { base, len } => {
@@ -64,13 +65,14 @@ fn serve_request(
     requires within { IsWithin (length process.old.memory) message.now.what }
     ensures answer { IfOk result (λ said. serving_answer here process.old message.now ≡ Some said) }
     ensures process { OnOk result (process.new ≡ after_serving process.old message.now.what) }
+    ensures err { OnErr result (process.new ≡ process.old) }
 {
     let what = serve_what(alloc, process, &message.what)?;
     Ok(answer(message, here, process.moves, what))
 }
 
 /// Serves a request for a piece that lies within the memory of its receiver, on machine `here`; a stopped process is
-/// served too. Only the bytes that are read take memory.
+/// served too. Only the bytes that are read take memory; where it lacks, nothing has changed.
 pub fn serve(
     alloc: Global,
     process: &mut Process,
@@ -83,6 +85,7 @@ pub fn serve(
     requires within { IsWithin (length process.old.memory) message.now.what }
     ensures answer { IfOk result (λ said. serving_answer here process.old message.now ≡ Some said) }
     ensures process { OnOk result (process.new ≡ after_serving process.old message.now.what) }
+    ensures err { OnErr result (process.new ≡ process.old) }
     ensures plain { IfOk result (λ said. plain_served process.new (plain_message said) ≡ served_plainly process.old (plain_message message.now)) }
     ensures lawful { OnOk result (IsLawfulProcess process.new) }
     ensures lawful_answer { IfOk result IsLawfulMessage }

@@ -6,22 +6,31 @@ use std::alloc::Global;
 use std::collections::VecDeque;
 use std::marker::Model;
 
+/// Of more values than these it matters how they are moved.
+const LONG: usize = 64;
+
 /// A queue, its front first, whose values stand on the heap one by one: where one is taken from the middle, no more than
 /// pointers move. Contracts see it as any other queue.
+///
+/// A long one is in two parts: where values are taken from the same place of it again and again, what stands before them goes
+/// into the first part once, and stays there, so that the next is taken from the front of the second part.
 #[derive(Drop)]
 pub struct Parcels<T> {
-    values: VecDeque<Parcel<T>>,
+    before: VecDeque<Parcel<T>>,
+    behind: VecDeque<Parcel<T>>,
+    /// The place from which a value was taken last.
+    last: usize,
 }
 
 impl<T> Model for Parcels<T> {
-    ghost use Rattle.std.specs.Prelude.{List};
+    ghost use Rattle.std.specs.Prelude.{List, ◌++◌};
     ghost use Rattle.std.specs.Coded.{coded_list};
 
     ghost Value = { List T };
 
     ghost coded = { coded_list T.code };
 
-    ghost view = { λ l. l.values.items };
+    ghost view = { λ l. l.before.items ++ l.behind.items };
 }
 
 impl<T> Parcels<T> {
@@ -30,7 +39,9 @@ impl<T> Parcels<T> {
         ensures { result ≡ [] }
     {
         Parcels {
-            values: VecDeque::new(alloc),
+            before: VecDeque::new(alloc),
+            behind: VecDeque::new(alloc),
+            last: 0,
         }
     }
 
@@ -41,14 +52,30 @@ impl<T> Parcels<T> {
         ensures ok { OnOk result (self.new ≡ self.old ++ item ∷ []) }
         ensures err { OnErr result (self.new ≡ self.old) }
     {
-        push_back(&mut self.values, item)
+        self.make_room();
+        push_back(&mut self.behind, item)
+    }
+
+    /// Makes room in the first part for all that stands in the second one, where that is long; without it values are taken from
+    /// the middle all the same, only more slowly.
+    fn make_room(&mut self)
+        ensures { self.new ≡ self.old }
+    {
+        let behind = self.behind.len();
+        if behind >= LONG && self.before.capacity() - self.before.len() < behind {
+            let _ = self.before.reserve(2 * behind);
+        }
     }
 
     /// Takes the value at the front.
     pub fn pop(&mut self) -> Option<T>
         ensures { MatchOption result ((self.old ≡ []) × (self.new ≡ [])) (λ x. self.old ≡ x ∷ self.new) }
     {
-        match self.values.pop_front() {
+        let first = match self.before.pop_front() {
+            Some(parcel) => Some(parcel),
+            None => self.behind.pop_front(),
+        };
+        match first {
             Some(parcel) => Some(parcel.into_inner()),
             None => None,
         }
@@ -60,7 +87,54 @@ impl<T> Parcels<T> {
         ensures value { slice_get self.old place ≡ Some result }
         ensures rest { self.new ≡ remove self.old place }
     {
-        self.values.remove(place).unwrap().into_inner()
+        if place == self.last && self.is_deep(place) {
+            self.go_to(place);
+        }
+        self.last = place;
+        self.take_here(place).into_inner()
+    }
+
+    /// Whether much would move if the value at a place were taken from its part as the parts are.
+    fn is_deep(&self, place: usize) -> bool {
+        let before = self.before.len();
+        let (at, len) = if place < before {
+            (place, before)
+        } else {
+            (place - before, self.behind.len())
+        };
+        at > LONG && len.saturating_sub(at) > LONG
+    }
+
+    /// Moves what is between the parts' border and a place into the other part, as far as there is room.
+    fn go_to(&mut self, place: usize)
+        ensures { self.new ≡ self.old }
+    {
+        while place < self.before.len() && self.behind.len() < self.behind.capacity() {
+            match self.before.pop_back() {
+                Some(parcel) => self.behind.push_front_reserved(parcel),
+                None => return,
+            }
+        }
+        while self.before.len() < place && self.before.len() < self.before.capacity() {
+            match self.behind.pop_front() {
+                Some(parcel) => self.before.push_back_reserved(parcel),
+                None => return,
+            }
+        }
+    }
+
+    /// Takes the value at a place from its part.
+    fn take_here(&mut self, place: usize) -> Parcel<T>
+        requires { place < length self.old }
+        ensures value { slice_get self.old place ≡ Some result }
+        ensures rest { self.new ≡ remove self.old place }
+    {
+        let before = self.before.len();
+        if place < before {
+            self.before.remove(place).unwrap()
+        } else {
+            self.behind.remove(place - before).unwrap()
+        }
     }
 
     /// The value at a place.
@@ -68,7 +142,12 @@ impl<T> Parcels<T> {
         requires { place < length self.now }
         ensures { slice_get self.now place ≡ Some result.now }
     {
-        self.values[place].get()
+        let before = self.before.len();
+        if place < before {
+            self.before[place].get()
+        } else {
+            self.behind[place - before].get()
+        }
     }
 
     /// An empty vector with room for all that stand here and for as many as `more` has.
@@ -77,13 +156,13 @@ impl<T> Parcels<T> {
         ensures len { IfOk result (λ list. vec_len list ≡ 0) }
         ensures exact { IfOk result (λ list. vec_capacity list ≡ length self.now + vec_len more.now) }
     {
-        with_room(alloc, self.values.len() + more.len())
+        with_room(alloc, self.len().saturating_add(more.len()))
     }
 
     /// How many there are.
     pub fn len(&self) -> usize
         ensures { result ≡ length self.now }
     {
-        self.values.len()
+        self.before.len() + self.behind.len()
     }
 }

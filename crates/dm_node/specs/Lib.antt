@@ -1,5 +1,4 @@
 pub mod State
-pub mod Encoded
 pub mod Out
 pub mod Acts
 pub mod Contents

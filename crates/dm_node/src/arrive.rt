@@ -9,10 +9,9 @@ ghost use Rattle.dm_node.specs.May.{MayArrive, MayArrivePacket};
 ghost use Rattle.dm_node.specs.Meets.{Gave, HasStreams, node_state};
 ghost use Rattle.dm_node.specs.Wired.{Spoke, so_far};
 
-use crate::encoded::Encoded;
 use crate::envelope::{Contents, Envelope};
 use crate::node::Node;
-use crate::speak::{say, send};
+use crate::speak::{say, send_ack};
 use dm_line::line::Line;
 use dm_link::MACHINES;
 use dm_memory::{NoMemory, Parcel};
@@ -150,8 +149,8 @@ impl Node {
         requires streams { HasStreams self.now }
         ensures { OnOk result (Spoke (so_far wires.old lines.old.items) (so_far wires.new lines.new.items) (acknowledges (node_state self.now) to)) }
     {
-        let acknowledgement = Encoded::ack(self.alloc, self.kernel.here(), to, self.count(to))?;
-        send(acknowledgement, wires, lines)
+        let here = self.kernel.here();
+        send_ack(here, to, self.count(to), wires, lines)
     }
 
     /// Machine `from` has taken the first `count` messages: those that wait go out, as far as the window allows.

@@ -1,20 +1,18 @@
 //! The ends of a machine's streams, as steps of the machine.
-ghost use Rattle.std.specs.Prelude.{◌≡◌, ◌<◌, ◌≤◌, ◌+◌, ◌-◌, ◌^◌, IfOk, IsSome};
-ghost use Rattle.dm_packet.specs.Lawful.{IsRoute};
+ghost use Rattle.std.specs.Prelude.{◌≡◌, ◌<◌, ◌≤◌, ◌+◌, ◌-◌, ◌^◌, IfSome, IsSome, option_map};
+ghost use Rattle.dm_message.specs.Lawful.{IsLawfulMessage};
 ghost use Rattle.dm_stream.specs.Sending.{due, outstanding, with_acked, with_sent};
 ghost use Rattle.dm_stream.specs.Receiving.{after_arrival, after_next, arrival, next};
 ghost use Rattle.dm_node.specs.Acts.{count_out, none_waits};
 ghost use Rattle.dm_node.specs.May.{MayAct};
 ghost use Rattle.dm_node.specs.Meets.{Gives, HasStreams, node_state};
-ghost use Rattle.dm_node.specs.Out.{numbered};
 ghost use Rattle.dm_node.specs.State.{with_receiver, with_sender};
 
-use crate::encoded::Encoded;
 use crate::node::Node;
 use crate::stop::Stop;
 use crate::streams;
 use dm_link::MACHINES;
-use dm_memory::{NoMemory, Parcel};
+use dm_memory::Parcel;
 use dm_message::Message;
 use dm_stream::{Arrived, GiveError, WINDOW};
 
@@ -44,14 +42,15 @@ impl Node {
         }
     }
 
-    /// The packet that is due to machine `to`.
-    pub(crate) fn due(&self, to: u8) -> Result<Option<Encoded>, NoMemory>
+    /// The message that is due to machine `to`, with its number.
+    pub(crate) fn due(&self, to: u8) -> Option<(u32, &Message)>
         requires may { MayAct (node_state self.now) }
         requires streams { HasStreams self.now }
-        requires route { IsRoute self.now.kernel.here to }
-        ensures { IfOk result (λ packet. packet ≡ numbered self.now.kernel.here to (due ((node_state self.now).senders to))) }
+        requires to { to < MACHINES }
+        ensures due { option_map (λ m. (m.0, m.1.now)) result ≡ due ((node_state self.now).senders to) }
+        ensures lawful { IfSome result (λ m. IsLawfulMessage m.1.now) }
     {
-        streams::due(self.alloc, &self.senders, self.kernel.here(), to)
+        streams::due(&self.senders, to)
     }
 
     /// The packet that is due to machine `to` has gone out.
@@ -65,14 +64,15 @@ impl Node {
         streams::sent_due(&mut self.senders, to);
     }
 
-    /// The packet at a place, from 0 on, among those that are out to machine `to`.
-    pub(crate) fn outstanding(&self, to: u8, place: usize) -> Result<Option<Encoded>, NoMemory>
+    /// The message at a place, from 0 on, among those that are out to machine `to`, with its number.
+    pub(crate) fn outstanding(&self, to: u8, place: usize) -> Option<(u32, &Message)>
         requires may { MayAct (node_state self.now) }
         requires streams { HasStreams self.now }
-        requires route { IsRoute self.now.kernel.here to }
-        ensures { IfOk result (λ packet. packet ≡ numbered self.now.kernel.here to (outstanding ((node_state self.now).senders to) place)) }
+        requires to { to < MACHINES }
+        ensures outstanding { option_map (λ m. (m.0, m.1.now)) result ≡ outstanding ((node_state self.now).senders to) place }
+        ensures lawful { IfSome result (λ m. IsLawfulMessage m.1.now) }
     {
-        streams::outstanding(self.alloc, &self.senders, self.kernel.here(), to, place)
+        streams::outstanding(&self.senders, to, place)
     }
 
     /// How many packets are out to machine `to` and not acknowledged, 0 to 8.

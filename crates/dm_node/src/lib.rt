@@ -4,12 +4,12 @@
 
 mod arrive;
 mod begin;
-pub mod encoded;
 mod ends;
 pub mod envelope;
 mod law;
 pub mod node;
 pub mod out;
+mod packets;
 mod read;
 mod route;
 mod speak;
@@ -18,7 +18,6 @@ mod streams;
 mod turn;
 
 pub use dm_memory::NoMemory;
-pub use encoded::Encoded;
 pub use envelope::Envelope;
 pub use law::events_send_lawfully;
 pub use node::Node;

@@ -10,7 +10,7 @@ ghost use Rattle.dm_node.specs.Meets.{Answers, Gave, HasStreams, node_state};
 ghost use Rattle.dm_node.specs.Wired.{so_far};
 
 use crate::node::Node;
-use crate::speak::{say, send};
+use crate::speak::{say, send_data};
 use crate::stop::Stop;
 use dm_line::line::Line;
 use dm_memory::{NoMemory, Parcel};
@@ -113,10 +113,10 @@ impl Node {
             (sends_due (node_state self.old) to (due ((node_state self.old).senders to)))) }
         ensures was { IfOk result (λ sent. sent ≡ is_some (due ((node_state self.old).senders to))) }
     {
-        let due = self.due(to)?;
-        match due {
-            Some(packet) => {
-                send(packet, wires, lines)?;
+        match self.due(to) {
+            Some((seq, message)) => {
+                let here = self.kernel.here();
+                send_data(here, to, seq, message, wires, lines)?;
                 self.sent_due(to);
                 Ok(true)
             }

@@ -1,22 +1,18 @@
 //! The ends of a machine's streams, by machine.
-ghost use Rattle.std.specs.Prelude.{◌≡◌, ◌<◌, ◌≤◌, ◌+◌, ◌-◌, ◌^◌, ◌↔◌, IfErr, IfOk, IsSome, OnOk, Err, length, ℕ};
+ghost use Rattle.std.specs.Prelude.{◌≡◌, ◌<◌, ◌≤◌, ◌+◌, ◌-◌, ◌^◌, ◌↔◌, IfErr, IfSome, IsSome, OnOk, Err, length, option_map, ℕ};
 ghost use Rattle.std.specs.List.{All};
 ghost use Rattle.dm_message.specs.Lawful.{IsLawfulMessage};
-ghost use Rattle.dm_packet.specs.Lawful.{IsRoute};
 ghost use Rattle.dm_stream.specs.Sending.{due, given_count, outstanding, with_acked, with_given, with_sent};
 ghost use Rattle.dm_stream.specs.Receiving.{after_arrival, after_next, arrival, next};
 ghost use Rattle.dm_stream.specs.Returned.{message_in};
 ghost use Rattle.dm_stream.specs.declared.sender.GiveError.TheVariants as no;
 ghost use Rattle.dm_node.specs.Acts.{count_out, none_waits};
-ghost use Rattle.dm_node.specs.Out.{numbered};
 ghost use Rattle.dm_node.specs.Meets.{receiver_at, sender_at};
 ghost use Rattle.dm_line.specs.Sets.{at_machine};
 
-use crate::encoded::Encoded;
-use dm_memory::{NoMemory, Parcel};
+use dm_memory::Parcel;
 use dm_message::Message;
 use dm_stream::{Arrived, GiveError, Receiver, Sender, WINDOW};
-use std::alloc::Global;
 
 /// Whether all messages to machine `to` have gone out.
 pub fn none_waits(senders: &[Sender<Parcel<Message>>], to: u8) -> bool
@@ -42,21 +38,16 @@ pub fn give(
     senders[usize::from(to)].give(message)
 }
 
-/// The packet that is due on the stream from machine `here` to machine `to`.
-pub fn due(
-    alloc: Global,
-    senders: &[Sender<Parcel<Message>>],
-    here: u8,
-    to: u8,
-) -> Result<Option<Encoded>, NoMemory>
+/// The message that is due on the stream to machine `to`, with its number.
+pub fn due(senders: &[Sender<Parcel<Message>>], to: u8) -> Option<(u32, &Message)>
     requires within { to < length senders.now }
-    requires route { IsRoute here to }
     requires lawful { All IsLawfulMessage (sender_at senders.now to).unacked }
-    ensures { IfOk result (λ packet. packet ≡ numbered here to (due (sender_at senders.now to))) }
+    ensures due { option_map (λ m. (m.0, m.1.now)) result ≡ due (sender_at senders.now to) }
+    ensures lawful { IfSome result (λ m. IsLawfulMessage m.1.now) }
 {
     match senders[usize::from(to)].due() {
-        Some((seq, message)) => Ok(Some(Encoded::data(alloc, here, to, seq, message.get())?)),
-        None => Ok(None),
+        Some((seq, message)) => Some((seq, message.get())),
+        None => None,
     }
 }
 
@@ -70,22 +61,20 @@ pub fn sent_due(senders: &mut [Sender<Parcel<Message>>], to: u8)
     senders[usize::from(to)].sent_due();
 }
 
-/// The packet at a place among those that are out from machine `here` to machine `to`.
+/// The message at a place among those that are out to machine `to`, with its number.
 pub fn outstanding(
-    alloc: Global,
     senders: &[Sender<Parcel<Message>>],
-    here: u8,
     to: u8,
     place: usize,
-) -> Result<Option<Encoded>, NoMemory>
+) -> Option<(u32, &Message)>
     requires within { to < length senders.now }
-    requires route { IsRoute here to }
     requires lawful { All IsLawfulMessage (sender_at senders.now to).unacked }
-    ensures { IfOk result (λ packet. packet ≡ numbered here to (outstanding (sender_at senders.now to) place)) }
+    ensures outstanding { option_map (λ m. (m.0, m.1.now)) result ≡ outstanding (sender_at senders.now to) place }
+    ensures lawful { IfSome result (λ m. IsLawfulMessage m.1.now) }
 {
     match senders[usize::from(to)].outstanding(place) {
-        Some((seq, message)) => Ok(Some(Encoded::data(alloc, here, to, seq, message.get())?)),
-        None => Ok(None),
+        Some((seq, message)) => Some((seq, message.get())),
+        None => None,
     }
 }
 

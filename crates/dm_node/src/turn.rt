@@ -12,7 +12,7 @@ ghost use Rattle.dm_node.specs.Meets.{Answers, AnswersSome, Gave, HasStreams, Or
 ghost use Rattle.dm_node.specs.Wired.{Spoke, so_far};
 
 use crate::node::Node;
-use crate::speak::{say, send};
+use crate::speak::{say, send_data};
 use crate::stop::Stop;
 use dm_kernel::{Part, calls_off_lawfully, moves_are_asked_lawfully, turns_are_lawful};
 use dm_line::line::Line;
@@ -164,9 +164,11 @@ impl Node {
         ensures { OnOk result (Spoke (so_far wires.old lines.old.items) (so_far wires.new lines.new.items)
             (again (node_state self.now) to (outstanding ((node_state self.now).senders to) place))) }
     {
-        let found = self.outstanding(to, place)?;
-        match found {
-            Some(packet) => send(packet, wires, lines),
+        match self.outstanding(to, place) {
+            Some((seq, message)) => {
+                let here = self.kernel.here();
+                send_data(here, to, seq, message, wires, lines)
+            }
             None => Ok(()),
         }
     }

@@ -1,7 +1,7 @@
 //! Packets as bytes: what goes over the wire between two machines.
 #![tactic(auto)]
 
-ghost use Rattle.std.specs.Prelude.{◌≡◌, ◌++◌, ◌≤◌, IfOk, Ok, OnErr, OnOk, length};
+ghost use Rattle.std.specs.Prelude.{◌≡◌, ◌≤◌, [], IfOk, Ok, OnOk, length};
 ghost use Rattle.dm_message.specs.Lawful.{IsLawfulMessage};
 ghost use Rattle.dm_packet.specs.declared.DecodeError.TheVariants as unread;
 ghost use Rattle.dm_packet.specs.Decodes.{Gives, IsDecoded};
@@ -15,13 +15,13 @@ pub mod reading;
 pub mod writing;
 
 pub use dm_memory::NoMemory;
-use dm_memory::extend_from_slice;
 use dm_message::Message;
 pub use front::Opened;
 pub use reading::{numbered_at, opened_at, room};
 use std::alloc::Global;
 use thiserror::Error;
-use writing::{Buffer, ack_bytes, put_data};
+pub use writing::Buffer;
+use writing::{ack_bytes, put_data};
 
 /// The room for a packet: no packet has more bytes.
 pub const MOST_PACKET: usize = 1024;
@@ -146,35 +146,25 @@ pub fn decode(alloc: Global, bytes: &[u8]) -> Result<Packet, DecodeError>
     }
 }
 
-/// Puts the one spelling of a message's packet, at most 1,024 bytes, at the end of a buffer, or leaves the buffer as it was.
-pub fn encode_data(
-    from: u8,
-    to: u8,
-    seq: u32,
-    message: &Message,
-    out: &mut Vec<u8>,
-) -> Result<(), NoMemory>
+/// Puts the one spelling of a message's packet, at most 1,024 bytes, in an empty buffer.
+pub fn encode_data(out: &mut Buffer, from: u8, to: u8, seq: u32, message: &Message)
+    requires empty { out.old.items ≡ [] }
     requires route { IsRoute from to }
     requires lawful { IsLawfulMessage message.now }
-    ensures ok { OnOk result (out.new.items ≡ out.old.items ++ spelling (Packet.Data from to seq message.now)) }
-    ensures err { OnErr result (out.new.items ≡ out.old.items) }
+    ensures spelled { out.new.items ≡ spelling (Packet.Data from to seq message.now) }
     ensures size { length (spelling (Packet.Data from to seq message.now)) ≤ MOST_PACKET }
     // What is written is read again.
     ensures again { packet_of (spelling (Packet.Data from to seq message.now)) ≡ Ok (Packet.Data from to seq message.now) }
 {
-    let mut bytes = Buffer::new();
-    put_data(&mut bytes, from, to, seq, message);
-    extend_from_slice(out, &bytes)
+    put_data(out, from, to, seq, message);
 }
 
-/// Puts the one spelling of an acknowledgement, of 8 bytes, at the end of a buffer, or leaves the buffer as it was.
-pub fn encode_ack(from: u8, to: u8, count: u32, out: &mut Vec<u8>) -> Result<(), NoMemory>
+/// The one spelling of an acknowledgement.
+pub fn encode_ack(from: u8, to: u8, count: u32) -> [u8; 8]
     requires route { IsRoute from to }
-    ensures ok { OnOk result (out.new.items ≡ out.old.items ++ spelling (Packet.Ack from to count)) }
-    ensures err { OnErr result (out.new.items ≡ out.old.items) }
-    ensures size { length (spelling (Packet.Ack from to count)) ≤ MOST_PACKET }
+    ensures spelled { result ≡ spelling (Packet.Ack from to count) }
     // What is written is read again.
     ensures again { packet_of (spelling (Packet.Ack from to count)) ≡ Ok (Packet.Ack from to count) }
 {
-    extend_from_slice(out, &ack_bytes(from, to, count))
+    ack_bytes(from, to, count)
 }

@@ -36,8 +36,7 @@ pub fn next_step(world: &World, directives: &[Directive], way: &mut Way) -> Opti
     ensures within { way.new.begun ≤ length directives.now }
 {
     'begun: loop {
-        if let Some((step, next)) = world.next(way.cursor) {
-            way.cursor = next;
+        if let Some(step) = world.next(&mut way.cursor) {
             return Some(step);
         }
         if way.begun == directives.len() {

@@ -1,5 +1,5 @@
 -- How far a directive has come: what is left to do then, and how much that can be at most.
-use Rattle.std.specs.Prelude.{◌≡◌, ◌≢◌, ⊤, ℕ, ◌+◌, ◌-◌, ◌*◌, ◌^◌, ◌<◌, ◌≤◌, true, false, nat_lt, if◌then◌else◌, IsSome, List, [], ◌∷◌, ◌++◌, drop, length}
+use Rattle.std.specs.Prelude.{◌≡◌, ◌≢◌, ⊤, ℕ, ◌+◌, ◌-◌, ◌*◌, ◌^◌, ◌<◌, ◌≤◌, true, false, nat_lt, if◌then◌else◌, IsSome, List, [], ◌∷◌, ◌++◌, drop, length, option_map}
 use Rattle.std.specs.declared.option.Option.{Option}
 use Rattle.std.specs.declared.option.Option.TheVariants.{None, Some}
 use Rattle.dm_wire.specs.Sent.{Sent}
@@ -45,6 +45,10 @@ todo_of n (Passing p place) ds = todo_at n p place ds
 abbrev pub as_next : ℕ → List Directive → Option (Step × Cursor) → Option Next
 as_next n ds None = None
 as_next n ds (Some r) = Some (record { step = r.0; left = todo_of n r.1 ds })
+
+-- the step that comes next, with how far the directive has come then
+abbrev pub with_cursor : Cursor → Option Step → Option (Step × Cursor)
+with_cursor c o = option_map (λ s. (s, c)) o
 
 -- the step that comes next and what is left behind it, or none is left of the directive
 abbrev pub NextIs : ℕ → WorldState → Cursor → List Directive → Option (Step × Cursor) → Type 0

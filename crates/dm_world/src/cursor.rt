@@ -1,8 +1,8 @@
 //! How far a directive has come, and which elementary one comes next.
-ghost use Rattle.std.specs.Prelude.{◌≡◌, ◌+◌, ◌<◌, List, None, Some, IfSome, length};
+ghost use Rattle.std.specs.Prelude.{◌≡◌, ◌+◌, ◌<◌, List, None, Some, IfNone, IfSome, length};
 ghost use Rattle.dm_schedule.specs.declared.Directive.{Directive as TheDirective};
 ghost use Rattle.dm_line.specs.Todo.{Two, is_over, takes_turn};
-ghost use Rattle.dm_world.specs.Cursor.{Falls, FirstIs, FirstTurnIs, InPassIs, IsFresh, NextIs, NextPassIs, RoundGoes, RowIs, TakesTurn, pairs_at};
+ghost use Rattle.dm_world.specs.Cursor.{Falls, FirstIs, FirstTurnIs, InPassIs, IsFresh, NextIs, NextPassIs, RoundGoes, RowIs, TakesTurn, pairs_at, with_cursor};
 ghost use Rattle.dm_world.specs.Meets.{IsWorld, world_state};
 ghost use Rattle.dm_world.specs.Next.{world_seen};
 
@@ -43,34 +43,39 @@ impl Cursor {
 }
 
 impl World {
-    /// The elementary directive that comes next, and how far the directive has come with it; none where it is over. In a
-    /// pass each ordered pair of machines is passed once, ascending, and no packet is looked at that was delivered. A
-    /// settle looks each time whether anything is on its way, and a rest whether anything is or can be served. It takes no
-    /// memory.
-    pub fn next(&self, cursor: Cursor) -> Option<(Step, Cursor)>
+    /// The elementary directive that comes next, and the cursor goes as far as the directive has come with it; none where it
+    /// is over, and the cursor stays. In a pass each ordered pair of machines is passed once, ascending, and no packet is
+    /// looked at that was delivered. A settle looks each time whether anything is on its way, and a rest whether anything is
+    /// or can be served. It takes no memory.
+    pub fn next(&self, cursor: &mut Cursor) -> Option<Step>
         requires { IsWorld self.now }
-        ensures next { (ds : List TheDirective) → NextIs (length self.now.boot.machines) (world_state self.now) cursor ds result }
+        ensures next { (ds : List TheDirective) → NextIs (length self.now.boot.machines) (world_state self.now) cursor.old ds (with_cursor cursor.new result) }
         // At most so many steps are left as `left` says; a settle delivers new packets, and lets machines with mail act.
-        ensures falls { IfSome result (λ r. Falls (length self.now.boot.machines) (world_state self.now) cursor r.0 r.1) }
+        ensures falls { IfSome result (λ s. Falls (length self.now.boot.machines) (world_state self.now) cursor.old s cursor.new) }
+        ensures stays { IfNone result (cursor.new ≡ cursor.old) }
     {
-        match cursor {
-            Cursor::One(step) => Some((step, Cursor::behind(Pass::Round(0)))),
-            Cursor::Passing { pass, place } => self.next_of(pass, place),
+        match *cursor {
+            Cursor::One(step) => {
+                *cursor = Cursor::behind(Pass::Round(0));
+                Some(step)
+            }
+            Cursor::Passing { pass, place } => self.next_of(pass, place, cursor),
         }
     }
 
     /// What comes next of a pass from this place on, and of those behind it.
-    fn next_of(&self, pass: Pass, place: Place) -> Option<(Step, Cursor)>
+    fn next_of(&self, pass: Pass, place: Place, cursor: &mut Cursor) -> Option<Step>
         requires { IsWorld self.now }
-        ensures next { (ds : List TheDirective) → NextIs (length self.now.boot.machines) (world_state self.now) (Cursor.Passing pass place) ds result }
-        ensures falls { IfSome result (λ r. Falls (length self.now.boot.machines) (world_state self.now) (Cursor.Passing pass place) r.0 r.1) }
+        ensures next { (ds : List TheDirective) → NextIs (length self.now.boot.machines) (world_state self.now) (Cursor.Passing pass place) ds (with_cursor cursor.new result) }
+        ensures falls { IfSome result (λ s. Falls (length self.now.boot.machines) (world_state self.now) (Cursor.Passing pass place) s cursor.new) }
+        ensures stays { IfNone result (cursor.new ≡ cursor.old) }
     {
         if self.is_over(pass) {
             return None;
         }
-        match self.next_at(pass, place) {
-            Some(found) => Some(found),
-            None => self.next_pass(pass),
+        match self.next_at(pass, place, cursor) {
+            Some(step) => Some(step),
+            None => self.next_pass(pass, cursor),
         }
     }
 
@@ -88,97 +93,103 @@ impl World {
     }
 
     /// What comes next where a pass is over, of those behind it.
-    fn next_pass(&self, pass: Pass) -> Option<(Step, Cursor)>
+    fn next_pass(&self, pass: Pass, cursor: &mut Cursor) -> Option<Step>
         requires { IsWorld self.now }
-        ensures next { (ds : List TheDirective) → NextPassIs (length self.now.boot.machines) (world_state self.now) pass ds result }
-        ensures falls { IfSome result (λ r. Falls (length self.now.boot.machines) (world_state self.now) (Cursor.Passing pass Place.End) r.0 r.1) }
+        ensures next { (ds : List TheDirective) → NextPassIs (length self.now.boot.machines) (world_state self.now) pass ds (with_cursor cursor.new result) }
+        ensures falls { IfSome result (λ s. Falls (length self.now.boot.machines) (world_state self.now) (Cursor.Passing pass Place.End) s cursor.new) }
+        ensures stays { IfNone result (cursor.new ≡ cursor.old) }
     {
         match pass {
-            Pass::Round(rounds) => self.next_round(rounds),
-            Pass::Settle => self.next_packet(Pass::Settle, 0, 0),
-            Pass::Rest(passes) => self.next_rest(passes),
+            Pass::Round(rounds) => self.next_round(rounds, cursor),
+            Pass::Settle => self.next_packet(Pass::Settle, 0, 0, cursor),
+            Pass::Rest(passes) => self.next_rest(passes, cursor),
         }
     }
 
     /// What comes next where so many rounds are left.
-    fn next_round(&self, rounds: u32) -> Option<(Step, Cursor)>
+    fn next_round(&self, rounds: u32, cursor: &mut Cursor) -> Option<Step>
         requires { IsWorld self.now }
         ensures next { (ds : List TheDirective) →
-            NextPassIs (length self.now.boot.machines) (world_state self.now) (Pass.Round rounds) ds result }
+            NextPassIs (length self.now.boot.machines) (world_state self.now) (Pass.Round rounds) ds (with_cursor cursor.new result) }
         ensures falls { IfSome result
-            (λ r. Falls (length self.now.boot.machines) (world_state self.now) (Cursor.Passing (Pass.Round rounds) Place.End) r.0 r.1) }
+            (λ s. Falls (length self.now.boot.machines) (world_state self.now) (Cursor.Passing (Pass.Round rounds) Place.End) s cursor.new) }
+        ensures stays { IfNone result (cursor.new ≡ cursor.old) }
     {
         if rounds == 0 {
             None
         } else {
-            self.next_packet(Pass::Round(rounds - 1), 0, 0)
+            self.next_packet(Pass::Round(rounds - 1), 0, 0, cursor)
         }
     }
 
     /// What comes next where so many passes of a rest are left.
-    fn next_rest(&self, passes: u32) -> Option<(Step, Cursor)>
+    fn next_rest(&self, passes: u32, cursor: &mut Cursor) -> Option<Step>
         requires { IsWorld self.now }
         ensures next { (ds : List TheDirective) →
-            NextPassIs (length self.now.boot.machines) (world_state self.now) (Pass.Rest passes) ds result }
+            NextPassIs (length self.now.boot.machines) (world_state self.now) (Pass.Rest passes) ds (with_cursor cursor.new result) }
         ensures falls { IfSome result
-            (λ r. Falls (length self.now.boot.machines) (world_state self.now) (Cursor.Passing (Pass.Rest passes) Place.End) r.0 r.1) }
+            (λ s. Falls (length self.now.boot.machines) (world_state self.now) (Cursor.Passing (Pass.Rest passes) Place.End) s cursor.new) }
+        ensures stays { IfNone result (cursor.new ≡ cursor.old) }
     {
         if passes == 0 {
             None
         } else {
-            self.next_packet(Pass::Rest(passes - 1), 0, 0)
+            self.next_packet(Pass::Rest(passes - 1), 0, 0, cursor)
         }
     }
 
     /// What comes next of a pass from this place on.
-    fn next_at(&self, pass: Pass, place: Place) -> Option<(Step, Cursor)>
+    fn next_at(&self, pass: Pass, place: Place, cursor: &mut Cursor) -> Option<Step>
         requires { IsWorld self.now }
-        ensures next { (ds : List TheDirective) → InPassIs (length self.now.boot.machines) (world_state self.now) pass place ds result }
-        ensures falls { IfSome result (λ r. Falls (length self.now.boot.machines) (world_state self.now) (Cursor.Passing pass place) r.0 r.1) }
+        ensures next { (ds : List TheDirective) → InPassIs (length self.now.boot.machines) (world_state self.now) pass place ds (with_cursor cursor.new result) }
+        ensures falls { IfSome result (λ s. Falls (length self.now.boot.machines) (world_state self.now) (Cursor.Passing pass place) s cursor.new) }
+        ensures stays { IfNone result (cursor.new ≡ cursor.old) }
     {
         match place {
-            Place::Packets { from, to } => self.next_packet(pass, from, to),
-            Place::Turns(m) => self.next_turn(pass, m),
+            Place::Packets { from, to } => self.next_packet(pass, from, to, cursor),
+            Place::Turns(m) => self.next_turn(pass, m, cursor),
             Place::End => None,
         }
     }
 
     /// What comes next of a pass from this pair on.
-    fn next_packet(&self, pass: Pass, from: u8, to: u8) -> Option<(Step, Cursor)>
+    fn next_packet(&self, pass: Pass, from: u8, to: u8, cursor: &mut Cursor) -> Option<Step>
         requires { IsWorld self.now }
         ensures next { (ds : List TheDirective) →
-            InPassIs (length self.now.boot.machines) (world_state self.now) pass (Place.Packets from to) ds result }
+            InPassIs (length self.now.boot.machines) (world_state self.now) pass (Place.Packets from to) ds (with_cursor cursor.new result) }
         ensures goes { RoundGoes pass result }
         ensures falls { IfSome result
-            (λ r. Falls (length self.now.boot.machines) (world_state self.now) (Cursor.Passing pass (Place.Packets from to)) r.0 r.1) }
+            (λ s. Falls (length self.now.boot.machines) (world_state self.now) (Cursor.Passing pass (Place.Packets from to)) s cursor.new) }
+        ensures stays { IfNone result (cursor.new ≡ cursor.old) }
     {
         match self.first_packet(from, to) {
-            Some((a, b, k)) => Some((
-                Step::Deliver { a, b, k },
-                Cursor::Passing {
+            Some((a, b, k)) => {
+                *cursor = Cursor::Passing {
                     pass,
                     place: Place::Packets { from: a, to: b },
-                },
-            )),
-            None => self.next_turn(pass, 0),
+                };
+                Some(Step::Deliver { a, b, k })
+            }
+            None => self.next_turn(pass, 0, cursor),
         }
     }
 
     /// What comes next of a pass where the machines from `m` on are left.
-    fn next_turn(&self, pass: Pass, m: u8) -> Option<(Step, Cursor)>
+    fn next_turn(&self, pass: Pass, m: u8, cursor: &mut Cursor) -> Option<Step>
         requires { IsWorld self.now }
-        ensures next { (ds : List TheDirective) → InPassIs (length self.now.boot.machines) (world_state self.now) pass (Place.Turns m) ds result }
+        ensures next { (ds : List TheDirective) → InPassIs (length self.now.boot.machines) (world_state self.now) pass (Place.Turns m) ds (with_cursor cursor.new result) }
         ensures goes { m < length self.now.boot.machines → RoundGoes pass result }
-        ensures falls { IfSome result (λ r. Falls (length self.now.boot.machines) (world_state self.now) (Cursor.Passing pass (Place.Turns m)) r.0 r.1) }
+        ensures falls { IfSome result (λ s. Falls (length self.now.boot.machines) (world_state self.now) (Cursor.Passing pass (Place.Turns m)) s cursor.new) }
+        ensures stays { IfNone result (cursor.new ≡ cursor.old) }
     {
         match self.first_turn(pass, m) {
-            Some(turn) => Some((
-                Step::Turn(turn),
-                Cursor::Passing {
+            Some(turn) => {
+                *cursor = Cursor::Passing {
                     pass,
                     place: Place::Turns(turn + 1),
-                },
-            )),
+                };
+                Some(Step::Turn(turn))
+            }
             None => None,
         }
     }
