@@ -1,5 +1,5 @@
 //! A value on the heap.
-ghost use Rattle.std.specs.Prelude.{◌≡◌, IfOk};
+ghost use Rattle.std.specs.Prelude.{◌≡◌, IfErr, IfOk};
 
 use crate::NoMemory;
 use std::alloc::Global;
@@ -32,6 +32,17 @@ impl<T> Parcel<T> {
         match Box::new(alloc, value) {
             Ok(value) => Ok(Parcel { value }),
             Err(_) => Err(NoMemory(())),
+        }
+    }
+
+    /// Puts a value on the heap, or hands it back.
+    pub fn new_or_return(alloc: Global, value: T) -> Result<Self, (T, NoMemory)>
+        ensures ok { IfOk result (λ parcel. parcel ≡ value) }
+        ensures returned { IfErr result (λ back. back.0 ≡ value) }
+    {
+        match Box::new(alloc, value) {
+            Ok(value) => Ok(Parcel { value }),
+            Err(failed) => Err((failed.value, NoMemory(()))),
         }
     }
 

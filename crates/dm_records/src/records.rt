@@ -10,7 +10,7 @@ ghost use Rattle.dm_records.specs.Records.{HasPlace, Grows, KeepsPreds, at, froz
 use crate::machines::Machines;
 use crate::record::{Record, Whereabouts};
 use dm_link::{MACHINES, Pid};
-use dm_memory::{NoMemory, insert_or_return};
+use dm_memory::{NoMemory, Parcel, insert_or_return};
 use std::alloc::Global;
 use std::collections::BTreeMap;
 
@@ -27,8 +27,9 @@ struct Place<H, L, A> {
 /// making a record takes memory. A record can be taken out; its process keeps a place meanwhile, so it can be put back.
 #[derive(Drop)]
 pub struct Records<H, L, A> {
-    /// A place for each process that has a record.
-    places: BTreeMap<Pid, Place<H, L, A>>,
+    alloc: Global,
+    /// A place for each process that has a record, on the heap: a map has room for eleven values where it has one.
+    places: BTreeMap<Pid, Parcel<Place<H, L, A>>>,
 }
 
 #[tactic(auto, unfolding(crate::specs::Records::at, crate::specs::Records::pred_at, crate::specs::Records::HasPlace))]
@@ -39,6 +40,7 @@ impl<H, L, A> Records<H, L, A> {
         ensures preds { (q : Pid) (n : ℕ) → pred_at result q n ≡ false }
     {
         Records {
+            alloc,
             places: BTreeMap::new(alloc),
         }
     }
@@ -59,7 +61,7 @@ impl<H, L, A> Records<H, L, A> {
         ensures { option_copied result ≡ at self.now pid }
     {
         match self.places.get(&pid) {
-            Some(place) => place.known.as_ref(),
+            Some(place) => place.get().known.as_ref(),
             None => None,
         }
     }
@@ -121,7 +123,7 @@ impl<H, L, A> Records<H, L, A> {
     {
         match self.places.get_mut(&pid) {
             Some(place) => {
-                place.known = Some(entry);
+                place.get_mut().known = Some(entry);
                 Ok(())
             }
             None => self.add(pid, entry),
@@ -145,9 +147,13 @@ impl<H, L, A> Records<H, L, A> {
             known: Some(entry),
             predecessors: Machines::none(),
         };
+        let place = match Parcel::new_or_return(self.alloc, place) {
+            Ok(place) => place,
+            Err((place, no)) => return Err((place.known.unwrap(), no)),
+        };
         match insert_or_return(&mut self.places, pid, place) {
             Ok(_) => Ok(()),
-            Err(((_, place), no)) => Err((place.known.unwrap(), no)),
+            Err(((_, place), no)) => Err((place.into_inner().known.unwrap(), no)),
         }
     }
 
@@ -158,7 +164,7 @@ impl<H, L, A> Records<H, L, A> {
         ensures preds { (q : Pid) (n : ℕ) → pred_at self.new q n ≡ without_preds (pred_at self.old) pid q n }
     {
         match self.places.remove(&pid) {
-            Some(place) => place.known,
+            Some(place) => place.into_inner().known,
             None => None,
         }
     }
@@ -168,7 +174,7 @@ impl<H, L, A> Records<H, L, A> {
         ensures { (n : ℕ) → has result n ≡ pred_at self.now pid n }
     {
         match self.places.get(&pid) {
-            Some(place) => place.predecessors,
+            Some(place) => place.get().predecessors,
             None => Machines::none(),
         }
     }
@@ -181,7 +187,7 @@ impl<H, L, A> Records<H, L, A> {
         ensures records { (q : Pid) → at self.new q ≡ at self.old q }
         ensures places { (q : Pid) → HasPlace self.old q → HasPlace self.new q }
     {
-        let place = self.places.get_mut(&pid).unwrap();
+        let place = self.places.get_mut(&pid).unwrap().get_mut();
         place.predecessors = place.predecessors.with(machine);
     }
 
@@ -193,7 +199,13 @@ impl<H, L, A> Records<H, L, A> {
         ensures place { HasPlace self.new pid }
         ensures preds { KeepsPreds self.old self.new }
     {
-        self.places.get_mut(&pid).unwrap().known.take().unwrap()
+        self.places
+            .get_mut(&pid)
+            .unwrap()
+            .get_mut()
+            .known
+            .take()
+            .unwrap()
     }
 
     /// Puts a record into the place of a process whose record was taken out.
@@ -207,7 +219,7 @@ impl<H, L, A> Records<H, L, A> {
         ensures place { HasPlace self.new pid }
         ensures preds { KeepsPreds self.old self.new }
     {
-        self.places.get_mut(&pid).unwrap().known = Some(entry);
+        self.places.get_mut(&pid).unwrap().get_mut().known = Some(entry);
     }
 
     /// Takes out a process that is here.
@@ -258,7 +270,7 @@ impl<H, L, A> Records<H, L, A> {
         ensures value { option_copied_mut result ≡ at self.old pid }
     {
         match self.places.get_mut(&pid) {
-            Some(place) => place.known.as_mut(),
+            Some(place) => place.get_mut().known.as_mut(),
             None => None,
         }
     }

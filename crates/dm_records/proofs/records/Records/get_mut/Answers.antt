@@ -12,4 +12,4 @@ unfolding at pred_at
 returns-in-Some g c =
     let there : IsSome (get pid_cmp c.args.self.now.places c.args.pid) = search rules in
     let old = get pid_cmp c.args.self.now.places in
-    ((refl, (λ w s. ((λ q. seen_set (λ o. option_and_then known_in o) old (get pid_cmp (c.get_mut.follows.lender (record { known = Some w; predecessors = c.in-Some.place.now.predecessors })) q) c.args.pid q (record { known = Some w; predecessors = c.in-Some.place.now.predecessors }) (((c.get_mut.follows.holds (record { known = Some w; predecessors = c.in-Some.place.now.predecessors })).3 there).0 q)), (λ q n. seen_kept (λ o. option_map_or (λ place. precedes place n) o false) old (get pid_cmp (c.get_mut.follows.lender (record { known = Some w; predecessors = c.in-Some.place.now.predecessors })) q) c.args.pid q (record { known = Some w; predecessors = c.in-Some.place.now.predecessors }) (search rules) (((c.get_mut.follows.holds (record { known = Some w; predecessors = c.in-Some.place.now.predecessors })).3 there).0 q)))), ((λ q. seen_kept (λ o. option_and_then known_in o) old (get pid_cmp (c.get_mut.follows.lender (record { known = c.in-Some.place.now.known; predecessors = c.in-Some.place.now.predecessors })) q) c.args.pid q (record { known = c.in-Some.place.now.known; predecessors = c.in-Some.place.now.predecessors }) (search rules) (((c.get_mut.follows.holds (record { known = c.in-Some.place.now.known; predecessors = c.in-Some.place.now.predecessors })).3 there).0 q)), (λ q n. seen_kept (λ o. option_map_or (λ place. precedes place n) o false) old (get pid_cmp (c.get_mut.follows.lender (record { known = c.in-Some.place.now.known; predecessors = c.in-Some.place.now.predecessors })) q) c.args.pid q (record { known = c.in-Some.place.now.known; predecessors = c.in-Some.place.now.predecessors }) (search rules) (((c.get_mut.follows.holds (record { known = c.in-Some.place.now.known; predecessors = c.in-Some.place.now.predecessors })).3 there).0 q)))), record { writes_back = tt; value = search rules })
+    ((refl, (λ w s. ((λ q. seen_set (λ o. option_and_then known_in o) old (get pid_cmp (c.get_mut.follows.lender (record { known = Some w; predecessors = c.get_mut-in-Some.result.now.predecessors })) q) c.args.pid q (record { known = Some w; predecessors = c.get_mut-in-Some.result.now.predecessors }) (((c.get_mut.follows.holds (record { known = Some w; predecessors = c.get_mut-in-Some.result.now.predecessors })).3 there).0 q)), (λ q n. seen_kept (λ o. option_map_or (λ place. precedes place n) o false) old (get pid_cmp (c.get_mut.follows.lender (record { known = Some w; predecessors = c.get_mut-in-Some.result.now.predecessors })) q) c.args.pid q (record { known = Some w; predecessors = c.get_mut-in-Some.result.now.predecessors }) (search rules) (((c.get_mut.follows.holds (record { known = Some w; predecessors = c.get_mut-in-Some.result.now.predecessors })).3 there).0 q)))), ((λ q. seen_kept (λ o. option_and_then known_in o) old (get pid_cmp (c.get_mut.follows.lender (record { known = c.get_mut-in-Some.result.now.known; predecessors = c.get_mut-in-Some.result.now.predecessors })) q) c.args.pid q (record { known = c.get_mut-in-Some.result.now.known; predecessors = c.get_mut-in-Some.result.now.predecessors }) (search rules) (((c.get_mut.follows.holds (record { known = c.get_mut-in-Some.result.now.known; predecessors = c.get_mut-in-Some.result.now.predecessors })).3 there).0 q)), (λ q n. seen_kept (λ o. option_map_or (λ place. precedes place n) o false) old (get pid_cmp (c.get_mut.follows.lender (record { known = c.get_mut-in-Some.result.now.known; predecessors = c.get_mut-in-Some.result.now.predecessors })) q) c.args.pid q (record { known = c.get_mut-in-Some.result.now.known; predecessors = c.get_mut-in-Some.result.now.predecessors }) (search rules) (((c.get_mut.follows.holds (record { known = c.get_mut-in-Some.result.now.known; predecessors = c.get_mut-in-Some.result.now.predecessors })).3 there).0 q)))), record { writes_back = tt; value = search rules })
