@@ -45,6 +45,25 @@ pub fn reserve_for<T>(list: &mut Vec<T>, _item: &T) -> Result<(), NoMemory>
     }
 }
 
+/// Makes room for so many more values; where there is none, besides for a quarter of those that are there, and for `few` at least:
+/// of a list that only grows less stays empty so than where its room is doubled.
+#[inline]
+pub fn room_for<T>(list: &mut Vec<T>, more: usize, few: usize) -> Result<(), NoMemory>
+    ensures items { list.new.items ≡ list.old.items }
+    ensures len { vec_len list.new ≡ vec_len list.old }
+    ensures room { OnOk result (vec_len list.old + more ≤ vec_capacity list.new) }
+    ensures capacity { vec_capacity list.old ≤ vec_capacity list.new }
+{
+    let len = list.len();
+    if more <= list.capacity() - len {
+        return Ok(());
+    }
+    match list.reserve_exact(more.saturating_add(few.max(len / 4))) {
+        Ok(()) => Ok(()),
+        Err(_) => Err(NoMemory(())),
+    }
+}
+
 /// Adds bytes at the end. Where memory lacks the list stays.
 pub fn extend_from_slice(list: &mut Vec<u8>, bytes: &[u8]) -> Result<(), NoMemory>
     ensures items { list.new.items ≡ (if is_ok result then list.old.items ++ bytes.now else list.old.items) }

@@ -3,9 +3,14 @@ ghost use Rattle.std.specs.Prelude.{IfOk, List, OnErr, OnOk, [], false, get_or, 
 ghost use Rattle.dm_wire.specs.Bytes.{AreEnds, beginning};
 ghost use Rattle.dm_wire.specs.Sent.{bytes_at, is_unseen, just_put, marked};
 
-use dm_memory::{NoMemory, extend_from_slice, reserve_for};
+use dm_memory::{NoMemory, extend_from_slice, room_for};
 use std::alloc::Global;
 use std::marker::Model;
+
+/// A wire has room for so many packets from its first one on, and their bytes.
+const FEW: usize = 32;
+
+const FEW_BYTES: usize = 256;
 
 /// All packets that were put, in one piece of memory, and the number of the first that wasn't delivered.
 #[derive(Drop)]
@@ -90,8 +95,9 @@ impl Packets {
         ensures err { OnErr result (self.new ≡ self.old) }
     {
         let number = self.ends.len() as u64;
-        reserve_for(&mut self.ends, &0)?;
-        reserve_for(&mut self.marks, &false)?;
+        room_for(&mut self.ends, 1, FEW)?;
+        room_for(&mut self.marks, 1, FEW)?;
+        room_for(&mut self.bytes, bytes.len(), FEW_BYTES)?;
         extend_from_slice(&mut self.bytes, bytes)?;
         self.ends.push_reserved(self.bytes.len());
         self.marks.push_reserved(false);
