@@ -21,6 +21,11 @@ IsWithin size (what.Read base len) = base + len ≤ size
 IsWithin size (what.Write base bytes) = base + length bytes.items ≤ size
 IsWithin size w = ⊥
 
+-- a request to read a piece
+abbrev pub IsRead : What → Type 0
+IsRead (what.Read base len) = Unit {0}
+IsRead w = ⊥
+
 -- a request that is answered where its receiver has ended: for a piece, wherever it lies, or that the receiver move
 abbrev pub IsRequest : What → Type 0
 IsRequest (what.Read base len) = Unit {0}

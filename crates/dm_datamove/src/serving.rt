@@ -3,7 +3,7 @@ ghost use Rattle.std.specs.Prelude.{◌≡◌, ◌<◌, IfOk, OnErr, OnOk, Some,
 ghost use Rattle.dm_message.specs.Lawful.{IsLawfulMessage, IsLawfulWhat};
 ghost use Rattle.dm_message.specs.Plain.{plain_message};
 ghost use Rattle.dm_process.specs.Lawful.{IsLawfulProcess};
-ghost use Rattle.dm_datamove.specs.Serving.{IsRequest, IsWithin, after_serving, answer, answer_of, gone_answer, gone_what, plain_served, plainly_gone, served_plainly, serving_answer};
+ghost use Rattle.dm_datamove.specs.Serving.{IsRead, IsRequest, IsWithin, after_serving, answer, answer_of, gone_answer, gone_what, plain_served, plainly_gone, served_plainly, serving_answer};
 
 use crate::body_at;
 use dm_link::{Addr, MACHINES};
@@ -39,6 +39,7 @@ fn serve_what(alloc: Global, process: &mut Process, what: &What) -> Result<What,
     ensures answer { IfOk result (λ said. answer_of process.old what.now ≡ Some said) }
     ensures process { OnOk result (process.new ≡ after_serving process.old what.now) }
     ensures err { OnErr result (process.new ≡ process.old) }
+    ensures read { OnErr result (IsRead what.now) }
 {
     match what {
         What::Read { base, len } => {
@@ -66,6 +67,7 @@ fn serve_request(
     ensures answer { IfOk result (λ said. serving_answer here process.old message.now ≡ Some said) }
     ensures process { OnOk result (process.new ≡ after_serving process.old message.now.what) }
     ensures err { OnErr result (process.new ≡ process.old) }
+    ensures read { OnErr result (IsRead message.now.what) }
 {
     let what = serve_what(alloc, process, &message.what)?;
     Ok(answer(message, here, process.moves, what))
@@ -86,6 +88,7 @@ pub fn serve(
     ensures answer { IfOk result (λ said. serving_answer here process.old message.now ≡ Some said) }
     ensures process { OnOk result (process.new ≡ after_serving process.old message.now.what) }
     ensures err { OnErr result (process.new ≡ process.old) }
+    ensures read { OnErr result (IsRead message.now.what) }
     ensures plain { IfOk result (λ said. plain_served process.new (plain_message said) ≡ served_plainly process.old (plain_message message.now)) }
     ensures lawful { OnOk result (IsLawfulProcess process.new) }
     ensures lawful_answer { IfOk result IsLawfulMessage }

@@ -12,14 +12,15 @@ const LONG: usize = 64;
 /// A queue, its front first, whose values stand on the heap one by one: where one is taken from the middle, no more than
 /// pointers move. Contracts see it as any other queue.
 ///
-/// A long one is in two parts: where values are taken from the same place of it again and again, what stands before them goes
-/// into the first part once, and stays there, so that the next is taken from the front of the second part.
+/// A long one is in two parts: where values are taken from far within a part, what stands before them goes into the first part,
+/// and stays there, so that the next is taken from the front of the second part. It goes there once as many values were moved
+/// within the parts as would be moved to the first, so no order of takings moves more than twice what a queue in one part would.
 #[derive(Drop)]
 pub struct Parcels<T> {
     before: VecDeque<Parcel<T>>,
     behind: VecDeque<Parcel<T>>,
-    /// The place from which a value was taken last.
-    last: usize,
+    /// How many values were moved within the parts since the border between them was moved last.
+    moved: usize,
 }
 
 impl<T> Model for Parcels<T> {
@@ -41,7 +42,7 @@ impl<T> Parcels<T> {
         Parcels {
             before: VecDeque::new(alloc),
             behind: VecDeque::new(alloc),
-            last: 0,
+            moved: 0,
         }
     }
 
@@ -87,22 +88,25 @@ impl<T> Parcels<T> {
         ensures value { slice_get self.old place ≡ Some result }
         ensures rest { self.new ≡ remove self.old place }
     {
-        if place == self.last && self.is_deep(place) {
+        let depth = self.depth(place);
+        if depth > LONG && self.moved >= self.before.len().abs_diff(place) {
             self.go_to(place);
+            self.moved = 0;
+        } else {
+            self.moved = self.moved.saturating_add(depth);
         }
-        self.last = place;
         self.take_here(place).into_inner()
     }
 
-    /// Whether much would move if the value at a place were taken from its part as the parts are.
-    fn is_deep(&self, place: usize) -> bool {
+    /// How many values move where the one at a place is taken from its part as the parts are.
+    fn depth(&self, place: usize) -> usize {
         let before = self.before.len();
         let (at, len) = if place < before {
             (place, before)
         } else {
             (place - before, self.behind.len())
         };
-        at > LONG && len.saturating_sub(at) > LONG
+        at.min(len.saturating_sub(at))
     }
 
     /// Moves what is between the parts' border and a place into the other part, as far as there is room.

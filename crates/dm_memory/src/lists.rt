@@ -53,6 +53,7 @@ pub fn room_for<T>(list: &mut Vec<T>, more: usize, few: usize) -> Result<(), NoM
     ensures len { vec_len list.new ≡ vec_len list.old }
     ensures room { OnOk result (vec_len list.old + more ≤ vec_capacity list.new) }
     ensures capacity { vec_capacity list.old ≤ vec_capacity list.new }
+    ensures succeeds { vec_len list.old + more ≤ vec_capacity list.old → IsOk result }
 {
     let len = list.len();
     if more <= list.capacity() - len {

@@ -2,8 +2,8 @@
 //! ask for. Whether a call lacks memory depends on the allocator alone, so here none does.
 
 use dm_memory::{
-    NoMemory, append_zeros, extend_from_slice, from_slice, insert, insert_or_return, push,
-    push_back, push_back_or_return, push_front, push_or_return, repeated, reserve_for,
+    NoMemory, Parcel, append_zeros, extend_from_slice, from_slice, insert, insert_or_return, push,
+    push_back, push_back_or_return, push_front, push_or_return, repeated, reserve_for, room_for,
     room_for_both, with_room, zeros,
 };
 use std::alloc::Global;
@@ -31,11 +31,12 @@ pub fn take_memory(rt: &HostRuntime) -> io::Result<()> {
 }
 
 /// What came of each call.
-fn taken(alloc: Global) -> [(&'static str, Result<usize, NoMemory>); 15] {
+fn taken(alloc: Global) -> [(&'static str, Result<usize, NoMemory>); 17] {
     [
         ("push", pushed(alloc)),
         ("push_or_return", pushed_or_returned(alloc)),
         ("reserve_for", reserved(alloc)),
+        ("room_for", roomy_for_more(alloc)),
         ("extend_from_slice", extended(alloc)),
         ("append_zeros", zeros_appended(alloc)),
         ("with_room", roomy(alloc)),
@@ -48,6 +49,7 @@ fn taken(alloc: Global) -> [(&'static str, Result<usize, NoMemory>); 15] {
         ("room_for_both", roomy_for_both(alloc)),
         ("insert", inserted(alloc)),
         ("insert_or_return", inserted_or_returned(alloc)),
+        ("Parcel::new_or_return", packed_or_returned(alloc)),
     ]
 }
 
@@ -84,6 +86,13 @@ fn reserved(alloc: Global) -> Result<usize, NoMemory> {
     let mut list = zeros(alloc, MOST_ZEROS)?;
     reserve_for(&mut list, &0)?;
     Ok(list.len())
+}
+
+/// The room of a list with room for as many values as it has, and with a quarter more.
+fn roomy_for_more(alloc: Global) -> Result<usize, NoMemory> {
+    let mut list = zeros(alloc, MOST_ZEROS)?;
+    room_for(&mut list, MOST_ZEROS as usize, 0)?;
+    Ok(list.capacity())
 }
 
 /// Bytes, added at the end of as many.
@@ -182,4 +191,16 @@ fn inserted_or_returned(alloc: Global) -> Result<usize, NoMemory> {
         }
     }
     Ok(map.len())
+}
+
+/// Many values, each on the heap by itself.
+fn packed_or_returned(alloc: Global) -> Result<usize, NoMemory> {
+    let mut list = Vec::new(alloc);
+    for number in 0..MANY {
+        match Parcel::new_or_return(alloc, number) {
+            Ok(parcel) => push(&mut list, parcel)?,
+            Err((_, no)) => return Err(no),
+        }
+    }
+    Ok(list.len())
 }
