@@ -35,8 +35,9 @@ pub fn next_step(world: &World, directives: &[Directive], way: &mut Way) -> Opti
     ensures next { Nexts world.now.boot directives.now (world_state world.now) way.old way.new result }
     ensures within { way.new.begun ≤ length directives.now }
 {
+    let mut step = Step::Turn(0);
     'begun: loop {
-        if let Some(step) = world.next(&mut way.cursor) {
+        if world.next(&mut way.cursor, &mut step) {
             return Some(step);
         }
         if way.begun == directives.len() {

@@ -7,10 +7,12 @@ use dm_memory::{NoMemory, extend_from_slice, room_for};
 use std::alloc::Global;
 use std::marker::Model;
 
-/// A wire has room for so many packets from its first one on, and their bytes.
-const FEW: usize = 32;
+/// A wire has room for so many packets from its first one on, for their marks, and for their bytes.
+const FEW: usize = 64;
 
-const FEW_BYTES: usize = 256;
+const FEW_MARKS: usize = 256;
+
+const FEW_BYTES: usize = 1024;
 
 /// All packets that were put, in one piece of memory, and the number of the first that wasn't delivered.
 #[derive(Drop)]
@@ -96,7 +98,7 @@ impl Packets {
     {
         let number = self.ends.len() as u64;
         room_for(&mut self.ends, 1, FEW)?;
-        room_for(&mut self.marks, 1, FEW)?;
+        room_for(&mut self.marks, 1, FEW_MARKS)?;
         room_for(&mut self.bytes, bytes.len(), FEW_BYTES)?;
         extend_from_slice(&mut self.bytes, bytes)?;
         self.ends.push_reserved(self.bytes.len());

@@ -49,7 +49,7 @@ pub use Rattle.dm_node.specs.declared.out.Out.{Out}
 pub use Rattle.dm_node.specs.declared.out.Out.TheVariants.{Sends}
 pub use Rattle.dm_node.specs.declared.stop.Stop.{Stop}
 pub use Rattle.dm_world.specs.Cursor.{Falls, FirstIs, FirstTurnIs, InPassIs, IsFresh, LeavesFewer, LeavesNoMore, NextIs, NextPassIs, RoundGoes, SettleGoes, TakesTurn, as_next, found_at, machines_left, pairs_left, room_of, row_at}
-pub use Rattle.dm_world.specs.Cursor.{seen_count, todo_at, turn_at, turns_at, turns_of, with_cursor}
+pub use Rattle.dm_world.specs.Cursor.{seen_count, todo_at, turn_at, turns_at, turns_of, found}
 unfoldable pub use Rattle.dm_world.specs.Cursor.{pairs_at, room}
 pub use Rattle.dm_world.specs.Ends.{SaysSome, awaited_kept, awaited_lines, child_lines, first_awaited, first_had, first_says, held_line, held_lines, homes_with, lines_in, link_lines, name_lines, names_of, pending_lines, process_lines, queue_of, record_lines}
 pub use Rattle.dm_world.specs.Ends.{record_kept, record_queue, slot_line, stream_line}

@@ -1,7 +1,7 @@
 -- What comes next of a pass, and where it is over.
 use Rattle.dm_world.proofs.Names.{◌≡◌, ◌≢◌, ℕ, suc, ◌+◌, ◌-◌, ◌<◌, ◌≤◌, ◌==◌, ◌&&◌, not, Bool, true, false, List, [], drop, length, refl, sym, ap, ◌∙◌, arith, ⊤, ◌||◌, if◌then◌else◌, IsSome, Option, None, Some}
 use Rattle.dm_world.proofs.Names.{false≢true, nat_tests, Step, Directive, Pass, Round, Settle, Next, Todo, Two, below, begin_pass, in_pass, next_delivery, next_directive, next_pass, next_turn, or, settles, takes_turn, Cursor}
-use Rattle.dm_world.proofs.Names.{Packets, FirstTurnIs, InPassIs, NextPassIs, RoundGoes, as_next, pairs_at, todo_at, with_cursor, all_heard}
+use Rattle.dm_world.proofs.Names.{Packets, FirstTurnIs, InPassIs, NextPassIs, RoundGoes, as_next, pairs_at, todo_at, all_heard}
 use Rattle.dm_world.proofs.Names.{world_is_quiet, WorldState, Seen, at_rest, Rest, world_seen}
 use Rattle.dm_schedule.specs.declared.Step.TheVariants as step
 use Rattle.dm_world.proofs.Passing.{drop-below, past_below, rows_are_pairs}
@@ -11,18 +11,17 @@ begins : (n : ℕ) (seen : Seen) (p : Pass) (ds : List Directive) → begin_pass
 begins n seen p ds =
     ap (λ (ps : List Two). in_pass seen (record { pairs = ps; machines = below n; pass = p; directives = ds }) (next_delivery seen.first ps)) (rows_are_pairs n 0)
 
-some_or : (n : ℕ) (ds : List Directive) (c : Cursor) (r : Option Step) (o : Option Next) → IsSome r → as_next n ds (with_cursor c r) ≡ or (as_next n ds (with_cursor c r)) o
-some_or n ds c None o h = absurd (false≢true h)
-some_or n ds c (Some r) o h = refl
+some_or : (n : ℕ) (ds : List Directive) (r : Option (Step × Cursor)) (o : Option Next) → IsSome r → as_next n ds r ≡ or (as_next n ds r) o
+some_or n ds None o h = absurd (false≢true h)
+some_or n ds (Some r) o h = refl
 
-pub one_fewer : (n : ℕ) (w : WorldState) (k : ℕ) (ds : List Directive) (c : Cursor) (r : Option Step) → 0 < k → InPassIs n w (Round (k - 1)) (Packets 0 0) ds (with_cursor c r) → RoundGoes (Round (k - 1)) r
-    → NextPassIs n w (Round k) ds (with_cursor c r)
-one_fewer n w k ds c r some h goes e =
+pub one_fewer : (n : ℕ) (w : WorldState) (k : ℕ) (ds : List Directive) (r : Option (Step × Cursor)) → 0 < k → InPassIs n w (Round (k - 1)) (Packets 0 0) ds r → RoundGoes (Round (k - 1)) r → NextPassIs n w (Round k) ds r
+one_fewer n w k ds r some h goes e =
     let is : k ≡ suc (k - 1) = omega (arith, some) in
     ap (λ (j : ℕ). next_pass n (world_seen n w) (Round j) ds) is
     ∙ begins n (world_seen n w) (Round (k - 1)) ds
     ∙ h
-    ∙ some_or n ds c r (next_directive n (world_seen n w) ds) goes
+    ∙ some_or n ds r (next_directive n (world_seen n w) ds) goes
 
 -- where a directive isn't over its next pass begins
 goes_on : (n : ℕ) (w : WorldState) (p : Pass) (ds : List Directive) (r : Option (Step × Cursor)) (over : Bool) → InPassIs n w p (Packets 0 0) ds r → over ≡ false

@@ -1,5 +1,5 @@
 -- How far a directive has come: what is left to do then, and how much that can be at most.
-use Rattle.std.specs.Prelude.{◌≡◌, ◌≢◌, ⊤, ℕ, ◌+◌, ◌-◌, ◌*◌, ◌^◌, ◌<◌, ◌≤◌, true, false, nat_lt, if◌then◌else◌, IsSome, List, [], ◌∷◌, ◌++◌, drop, length, option_map}
+use Rattle.std.specs.Prelude.{◌≡◌, ◌≢◌, ⊤, ℕ, ◌+◌, ◌-◌, ◌*◌, ◌^◌, ◌<◌, ◌≤◌, Bool, true, false, nat_lt, if◌then◌else◌, IsSome, List, [], ◌∷◌, ◌++◌, drop, length}
 use Rattle.std.specs.declared.option.Option.{Option}
 use Rattle.std.specs.declared.option.Option.TheVariants.{None, Some}
 use Rattle.dm_wire.specs.Sent.{Sent}
@@ -46,9 +46,9 @@ abbrev pub as_next : ℕ → List Directive → Option (Step × Cursor) → Opti
 as_next n ds None = None
 as_next n ds (Some r) = Some (record { step = r.0; left = todo_of n r.1 ds })
 
--- the step that comes next, with how far the directive has come then
-abbrev pub with_cursor : Cursor → Option Step → Option (Step × Cursor)
-with_cursor c o = option_map (λ s. (s, c)) o
+-- the step that comes next, if one does, with how far the directive has come then
+abbrev pub found : Bool → Step → Cursor → Option (Step × Cursor)
+found is s c = if is then Some (s, c) else None
 
 -- the step that comes next and what is left behind it, or none is left of the directive
 abbrev pub NextIs : ℕ → WorldState → Cursor → List Directive → Option (Step × Cursor) → Type 0

@@ -1,8 +1,8 @@
 //! How far a directive has come, and which elementary one comes next.
-ghost use Rattle.std.specs.Prelude.{◌≡◌, ◌+◌, ◌<◌, List, None, Some, IfNone, IfSome, length};
+ghost use Rattle.std.specs.Prelude.{◌≡◌, ◌+◌, ◌<◌, List, None, Some, IfSome, length, false, true};
 ghost use Rattle.dm_schedule.specs.declared.Directive.{Directive as TheDirective};
 ghost use Rattle.dm_line.specs.Todo.{Two, is_over, takes_turn};
-ghost use Rattle.dm_world.specs.Cursor.{Falls, FirstIs, FirstTurnIs, InPassIs, IsFresh, NextIs, NextPassIs, RoundGoes, RowIs, TakesTurn, pairs_at, with_cursor};
+ghost use Rattle.dm_world.specs.Cursor.{Falls, FirstIs, FirstTurnIs, InPassIs, IsFresh, NextIs, NextPassIs, RoundGoes, RowIs, TakesTurn, found, pairs_at};
 ghost use Rattle.dm_world.specs.Meets.{IsWorld, world_state};
 ghost use Rattle.dm_world.specs.Next.{world_seen};
 
@@ -47,36 +47,34 @@ impl World {
     /// is over, and the cursor stays. In a pass each ordered pair of machines is passed once, ascending, and no packet is
     /// looked at that was delivered. A settle looks each time whether anything is on its way, and a rest whether anything is
     /// or can be served. It takes no memory.
-    pub fn next(&self, cursor: &mut Cursor) -> Option<Step>
+    pub fn next(&self, cursor: &mut Cursor, step: &mut Step) -> bool
         requires { IsWorld self.now }
-        ensures next { (ds : List TheDirective) → NextIs (length self.now.boot.machines) (world_state self.now) cursor.old ds (with_cursor cursor.new result) }
+        ensures next { (ds : List TheDirective) → NextIs (length self.now.boot.machines) (world_state self.now) cursor.old ds (found result step.new cursor.new) }
         // At most so many steps are left as `left` says; a settle delivers new packets, and lets machines with mail act.
-        ensures falls { IfSome result (λ s. Falls (length self.now.boot.machines) (world_state self.now) cursor.old s cursor.new) }
-        ensures stays { IfNone result (cursor.new ≡ cursor.old) }
+        ensures falls { result ≡ true → Falls (length self.now.boot.machines) (world_state self.now) cursor.old step.new cursor.new }
+        ensures stays { result ≡ false → cursor.new ≡ cursor.old }
     {
         match *cursor {
-            Cursor::One(step) => {
+            Cursor::One(one) => {
                 *cursor = Cursor::behind(Pass::Round(0));
-                Some(step)
+                *step = one;
+                true
             }
-            Cursor::Passing { pass, place } => self.next_of(pass, place, cursor),
+            Cursor::Passing { pass, place } => self.next_of(pass, place, cursor, step),
         }
     }
 
     /// What comes next of a pass from this place on, and of those behind it.
-    fn next_of(&self, pass: Pass, place: Place, cursor: &mut Cursor) -> Option<Step>
+    fn next_of(&self, pass: Pass, place: Place, cursor: &mut Cursor, step: &mut Step) -> bool
         requires { IsWorld self.now }
-        ensures next { (ds : List TheDirective) → NextIs (length self.now.boot.machines) (world_state self.now) (Cursor.Passing pass place) ds (with_cursor cursor.new result) }
-        ensures falls { IfSome result (λ s. Falls (length self.now.boot.machines) (world_state self.now) (Cursor.Passing pass place) s cursor.new) }
-        ensures stays { IfNone result (cursor.new ≡ cursor.old) }
+        ensures next { (ds : List TheDirective) → NextIs (length self.now.boot.machines) (world_state self.now) (Cursor.Passing pass place) ds (found result step.new cursor.new) }
+        ensures falls { result ≡ true → Falls (length self.now.boot.machines) (world_state self.now) (Cursor.Passing pass place) step.new cursor.new }
+        ensures stays { result ≡ false → cursor.new ≡ cursor.old }
     {
         if self.is_over(pass) {
-            return None;
+            return false;
         }
-        match self.next_at(pass, place, cursor) {
-            Some(step) => Some(step),
-            None => self.next_pass(pass, cursor),
-        }
+        self.next_at(pass, place, cursor, step) || self.next_pass(pass, cursor, step)
     }
 
     /// Whether the directive of a pass is over in the midst of it: a settle is where nothing is on its way, and a rest where
@@ -93,74 +91,78 @@ impl World {
     }
 
     /// What comes next where a pass is over, of those behind it.
-    fn next_pass(&self, pass: Pass, cursor: &mut Cursor) -> Option<Step>
+    fn next_pass(&self, pass: Pass, cursor: &mut Cursor, step: &mut Step) -> bool
         requires { IsWorld self.now }
-        ensures next { (ds : List TheDirective) → NextPassIs (length self.now.boot.machines) (world_state self.now) pass ds (with_cursor cursor.new result) }
-        ensures falls { IfSome result (λ s. Falls (length self.now.boot.machines) (world_state self.now) (Cursor.Passing pass Place.End) s cursor.new) }
-        ensures stays { IfNone result (cursor.new ≡ cursor.old) }
+        ensures next { (ds : List TheDirective) → NextPassIs (length self.now.boot.machines) (world_state self.now) pass ds (found result step.new cursor.new) }
+        ensures falls { result ≡ true → Falls (length self.now.boot.machines) (world_state self.now) (Cursor.Passing pass Place.End) step.new cursor.new }
+        ensures stays { result ≡ false → cursor.new ≡ cursor.old }
     {
         match pass {
-            Pass::Round(rounds) => self.next_round(rounds, cursor),
-            Pass::Settle => self.next_packet(Pass::Settle, 0, 0, cursor),
-            Pass::Rest(passes) => self.next_rest(passes, cursor),
+            Pass::Round(rounds) => self.next_round(rounds, cursor, step),
+            Pass::Settle => self.next_packet(Pass::Settle, 0, 0, cursor, step),
+            Pass::Rest(passes) => self.next_rest(passes, cursor, step),
         }
     }
 
     /// What comes next where so many rounds are left.
-    fn next_round(&self, rounds: u32, cursor: &mut Cursor) -> Option<Step>
+    fn next_round(&self, rounds: u32, cursor: &mut Cursor, step: &mut Step) -> bool
         requires { IsWorld self.now }
         ensures next { (ds : List TheDirective) →
-            NextPassIs (length self.now.boot.machines) (world_state self.now) (Pass.Round rounds) ds (with_cursor cursor.new result) }
-        ensures falls { IfSome result
-            (λ s. Falls (length self.now.boot.machines) (world_state self.now) (Cursor.Passing (Pass.Round rounds) Place.End) s cursor.new) }
-        ensures stays { IfNone result (cursor.new ≡ cursor.old) }
+            NextPassIs (length self.now.boot.machines) (world_state self.now) (Pass.Round rounds) ds (found result step.new cursor.new) }
+        ensures falls { result ≡ true → Falls (length self.now.boot.machines) (world_state self.now) (Cursor.Passing (Pass.Round rounds) Place.End) step.new cursor.new }
+        ensures stays { result ≡ false → cursor.new ≡ cursor.old }
     {
         if rounds == 0 {
-            None
+            false
         } else {
-            self.next_packet(Pass::Round(rounds - 1), 0, 0, cursor)
+            self.next_packet(Pass::Round(rounds - 1), 0, 0, cursor, step)
         }
     }
 
     /// What comes next where so many passes of a rest are left.
-    fn next_rest(&self, passes: u32, cursor: &mut Cursor) -> Option<Step>
+    fn next_rest(&self, passes: u32, cursor: &mut Cursor, step: &mut Step) -> bool
         requires { IsWorld self.now }
         ensures next { (ds : List TheDirective) →
-            NextPassIs (length self.now.boot.machines) (world_state self.now) (Pass.Rest passes) ds (with_cursor cursor.new result) }
-        ensures falls { IfSome result
-            (λ s. Falls (length self.now.boot.machines) (world_state self.now) (Cursor.Passing (Pass.Rest passes) Place.End) s cursor.new) }
-        ensures stays { IfNone result (cursor.new ≡ cursor.old) }
+            NextPassIs (length self.now.boot.machines) (world_state self.now) (Pass.Rest passes) ds (found result step.new cursor.new) }
+        ensures falls { result ≡ true → Falls (length self.now.boot.machines) (world_state self.now) (Cursor.Passing (Pass.Rest passes) Place.End) step.new cursor.new }
+        ensures stays { result ≡ false → cursor.new ≡ cursor.old }
     {
         if passes == 0 {
-            None
+            false
         } else {
-            self.next_packet(Pass::Rest(passes - 1), 0, 0, cursor)
+            self.next_packet(Pass::Rest(passes - 1), 0, 0, cursor, step)
         }
     }
 
     /// What comes next of a pass from this place on.
-    fn next_at(&self, pass: Pass, place: Place, cursor: &mut Cursor) -> Option<Step>
+    fn next_at(&self, pass: Pass, place: Place, cursor: &mut Cursor, step: &mut Step) -> bool
         requires { IsWorld self.now }
-        ensures next { (ds : List TheDirective) → InPassIs (length self.now.boot.machines) (world_state self.now) pass place ds (with_cursor cursor.new result) }
-        ensures falls { IfSome result (λ s. Falls (length self.now.boot.machines) (world_state self.now) (Cursor.Passing pass place) s cursor.new) }
-        ensures stays { IfNone result (cursor.new ≡ cursor.old) }
+        ensures next { (ds : List TheDirective) → InPassIs (length self.now.boot.machines) (world_state self.now) pass place ds (found result step.new cursor.new) }
+        ensures falls { result ≡ true → Falls (length self.now.boot.machines) (world_state self.now) (Cursor.Passing pass place) step.new cursor.new }
+        ensures stays { result ≡ false → cursor.new ≡ cursor.old }
     {
         match place {
-            Place::Packets { from, to } => self.next_packet(pass, from, to, cursor),
-            Place::Turns(m) => self.next_turn(pass, m, cursor),
-            Place::End => None,
+            Place::Packets { from, to } => self.next_packet(pass, from, to, cursor, step),
+            Place::Turns(m) => self.next_turn(pass, m, cursor, step),
+            Place::End => false,
         }
     }
 
     /// What comes next of a pass from this pair on.
-    fn next_packet(&self, pass: Pass, from: u8, to: u8, cursor: &mut Cursor) -> Option<Step>
+    fn next_packet(
+        &self,
+        pass: Pass,
+        from: u8,
+        to: u8,
+        cursor: &mut Cursor,
+        step: &mut Step,
+    ) -> bool
         requires { IsWorld self.now }
         ensures next { (ds : List TheDirective) →
-            InPassIs (length self.now.boot.machines) (world_state self.now) pass (Place.Packets from to) ds (with_cursor cursor.new result) }
-        ensures goes { RoundGoes pass result }
-        ensures falls { IfSome result
-            (λ s. Falls (length self.now.boot.machines) (world_state self.now) (Cursor.Passing pass (Place.Packets from to)) s cursor.new) }
-        ensures stays { IfNone result (cursor.new ≡ cursor.old) }
+            InPassIs (length self.now.boot.machines) (world_state self.now) pass (Place.Packets from to) ds (found result step.new cursor.new) }
+        ensures goes { RoundGoes pass (found result step.new cursor.new) }
+        ensures falls { result ≡ true → Falls (length self.now.boot.machines) (world_state self.now) (Cursor.Passing pass (Place.Packets from to)) step.new cursor.new }
+        ensures stays { result ≡ false → cursor.new ≡ cursor.old }
     {
         match self.first_packet(from, to) {
             Some((a, b, k)) => {
@@ -168,19 +170,20 @@ impl World {
                     pass,
                     place: Place::Packets { from: a, to: b },
                 };
-                Some(Step::Deliver { a, b, k })
+                *step = Step::Deliver { a, b, k };
+                true
             }
-            None => self.next_turn(pass, 0, cursor),
+            None => self.next_turn(pass, 0, cursor, step),
         }
     }
 
     /// What comes next of a pass where the machines from `m` on are left.
-    fn next_turn(&self, pass: Pass, m: u8, cursor: &mut Cursor) -> Option<Step>
+    fn next_turn(&self, pass: Pass, m: u8, cursor: &mut Cursor, step: &mut Step) -> bool
         requires { IsWorld self.now }
-        ensures next { (ds : List TheDirective) → InPassIs (length self.now.boot.machines) (world_state self.now) pass (Place.Turns m) ds (with_cursor cursor.new result) }
-        ensures goes { m < length self.now.boot.machines → RoundGoes pass result }
-        ensures falls { IfSome result (λ s. Falls (length self.now.boot.machines) (world_state self.now) (Cursor.Passing pass (Place.Turns m)) s cursor.new) }
-        ensures stays { IfNone result (cursor.new ≡ cursor.old) }
+        ensures next { (ds : List TheDirective) → InPassIs (length self.now.boot.machines) (world_state self.now) pass (Place.Turns m) ds (found result step.new cursor.new) }
+        ensures goes { m < length self.now.boot.machines → RoundGoes pass (found result step.new cursor.new) }
+        ensures falls { result ≡ true → Falls (length self.now.boot.machines) (world_state self.now) (Cursor.Passing pass (Place.Turns m)) step.new cursor.new }
+        ensures stays { result ≡ false → cursor.new ≡ cursor.old }
     {
         match self.first_turn(pass, m) {
             Some(turn) => {
@@ -188,9 +191,10 @@ impl World {
                     pass,
                     place: Place::Turns(turn + 1),
                 };
-                Some(Step::Turn(turn))
+                *step = Step::Turn(turn);
+                true
             }
-            None => None,
+            None => false,
         }
     }
 
