@@ -1,7 +1,7 @@
 -- Those at the ring's front that can't be served stay there, and as they are, where one behind them is served.
-use Rattle.dm_kernel.proofs.Names.{◌≡◌, ◌∙◌, ℕ, zero, suc, true, false, List, [], ◌∷◌, Some, None, slice_get, refl, ap, sym, subst, arith, common_steps, OnOk, Result, Vec, Global, NoMemory, Option, Pid, pid_eq, pid_eq_same, Here, Frozen, Incoming, Forward}
+use Rattle.dm_kernel.proofs.Names.{◌≡◌, ◌∙◌, ℕ, zero, suc, true, false, List, [], ◌∷◌, Some, None, slice_get, refl, ap, sym, subst, arith, common_steps, Option, Pid, pid_eq, pid_eq_same, Here, Frozen, Incoming, Forward}
 use Rattle.dm_kernel.proofs.Names.{Message, Process, Status, Called, Completed, Completion, Done, Part, Halt, Kernel, KernelKnown, KernelState, Turned, moved_back, without, first_on, known_is_runnable, first_runnable}
-use Rattle.dm_kernel.proofs.Names.{Answers, AreIdle, called_with, does, halts, received, received_by, receives, serves, serves_status, with_here, with_machine, without_record, ran, processor_of, calls, completion, at}
+use Rattle.dm_kernel.proofs.Names.{MeetsSome, AreIdle, called_with, does, halts, received, received_by, receives, serves, serves_status, with_here, with_machine, without_record, ran, processor_of, calls, completion, at}
 use Rattle.dm_kernel.proofs.Names.{Boot, ⊤, goes_round}
 use Rattle.dm_kernel.proofs.Opening.{is_state}
 use Rattle.dm_resident.specs.declared.Resident.TheVariants as resident
@@ -9,7 +9,6 @@ use Rattle.dm_process.specs.declared.process.Status.TheVariants as status
 use Rattle.dm_kernel.specs.declared.run.Halt.TheVariants as halt
 use Rattle.dm_syscall.specs.declared.Called.TheVariants as called
 use Rattle.dm_syscall.specs.declared.Completed.TheVariants as completed
-use Rattle.std.specs.declared.result.Result.TheVariants.{Ok, Err}
 
 -- one that can be served isn't among them: it leaves the ring, or goes to its back
 pub idle_without : (records : Pid → Option KernelKnown) (ring : List Pid) (n : ℕ) (p : Pid) → known_is_runnable (records p) ≡ true → AreIdle records ring n → AreIdle records (without p ring) n
@@ -86,19 +85,18 @@ serves_stay quantum s p n (Some (Incoming arriving)) can idle = tt
 serves_stay quantum s p n (Some (Forward machine moves)) can idle = tt
 
 -- in the code too
-answered : (r : Result (Vec Part Global) NoMemory) (k : Kernel) (n : ℕ) (t : Option Turned) → StayIdle n t → Answers r k t → OnOk r (AreIdle (at k.records) k.ring n)
-answered (Ok parts) k n None idle h = absurd h
-answered (Ok parts) k n (Some t) idle h = subst (λ (u : KernelState). AreIdle u.records u.ring n) (sym (is_state k t.state h.state)) idle
-answered (Err e) k n t idle h = tt
+answered : (k : Kernel) (said : List Part) (n : ℕ) (t : Option Turned) → StayIdle n t → MeetsSome k said t → AreIdle (at k.records) k.ring n
+answered k said n None idle h = absurd h
+answered k said n (Some t) idle h = subst (λ (u : KernelState). AreIdle u.records u.ring n) (sym (is_state k t.state h.state)) idle
 
-pub serves_idle : (r : Result (Vec Part Global) NoMemory) (k : Kernel) (quantum : ℕ) (s : KernelState) (p : Pid) (n : ℕ) → known_is_runnable (s.records p) ≡ true → AreIdle s.records s.ring n → Answers r k (serves quantum s p (s.records p))
-    → OnOk r (AreIdle (at k.records) k.ring n)
-serves_idle r k quantum s p n can idle h = answered r k n _ (serves_stay quantum s p n (s.records p) can idle) h
+pub serves_idle : (k : Kernel) (said : List Part) (quantum : ℕ) (s : KernelState) (p : Pid) (n : ℕ) → known_is_runnable (s.records p) ≡ true → AreIdle s.records s.ring n → MeetsSome k said (serves quantum s p (s.records p))
+    → AreIdle (at k.records) k.ring n
+serves_idle k said quantum s p n can idle h = answered k said n _ (serves_stay quantum s p n (s.records p) can idle) h
 
 -- what the kernel remembers of its ring isn't in what it answers
-pub remembers : (r : Result (Vec Part Global) NoMemory) (k : Kernel) (n : ℕ) (t : Option Turned) → Answers r k t → Answers r (record k { idle = n }) t
-remembers (Ok parts) k n None h = h
-remembers (Ok parts) k n (Some t) h =
+pub remembers : (k : Kernel) (said : List Part) (n : ℕ) (t : Option Turned) → MeetsSome k said t → MeetsSome (record k { idle = n }) said t
+remembers k said n None h = h
+remembers k said n (Some t) h =
     record {
       state =
           record {
@@ -114,7 +112,6 @@ remembers (Ok parts) k n (Some t) h =
           };
       parts = h.parts;
     }
-remembers (Err e) k n t h = h
 
 -- the first that can be served is found and goes to the back
 pub first_can : (records : Pid → Option KernelKnown) (ring : List Pid) (p : Pid) → first_runnable records ring ≡ Some p → known_is_runnable (records p) ≡ true

@@ -9,7 +9,7 @@ ghost use Rattle.dm_process.specs.Service.{IsServiceOf};
 ghost use Rattle.dm_kernel.specs.Carried.{FreezesWhole};
 ghost use Rattle.dm_kernel.specs.Idle.{AreIdle, KnowsIdle};
 ghost use Rattle.dm_kernel.specs.May.{CanTellAll, MayAct, MayTurn};
-ghost use Rattle.dm_kernel.specs.Meets.{Answers, kernel_state};
+ghost use Rattle.dm_kernel.specs.Meets.{Takes, kernel_state};
 ghost use Rattle.dm_kernel.specs.Served.{IsHere};
 ghost use Rattle.dm_kernel.specs.Turn.{first_runnable, goes_round, known_is_runnable, turn};
 
@@ -25,12 +25,12 @@ use dm_process::Service;
 
 impl Kernel {
     /// Takes a turn: handles the message at the inbox's front, or serves the first process of the ring that can be
-    /// served, or is idle. Answers what it says and routes, in order.
-    pub fn turn(&mut self, boot: &Boot) -> Result<Vec<Part>, NoMemory>
+    /// served, or is idle. Answers what it says and routes, in order; none where it is idle, since it says that alone then.
+    pub fn turn(&mut self, boot: &Boot) -> Result<Option<Vec<Part>>, NoMemory>
         requires may { MayTurn boot.now (kernel_state self.old) }
         requires images { images_are_valid boot.now.images ≡ true }
         requires idle { KnowsIdle self.old }
-        ensures answers { Answers result self.new (turn boot.now (kernel_state self.old)) }
+        ensures answers { Takes result self.new (turn boot.now (kernel_state self.old)) }
         // Where it froze a process or a server, that can be carried whole.
         ensures whole { OnOk result (FreezesWhole (kernel_state self.old) self.old.inbox) }
         ensures idle { OnOk result (KnowsIdle self.new) }
@@ -38,36 +38,36 @@ impl Kernel {
         self.over = None;
         match self.inbox.pop() {
             Some(message) => {
-                let parts = self.handle(boot, message);
+                let parts = self.handle(boot, message)?;
                 // Any process may be one now that can be served.
                 self.idle = 0;
-                parts
+                Ok(Some(parts))
             }
             None => self.go_round(boot),
         }
     }
 
-    /// Serves the first process of the ring that can be served, which goes to the ring's back.
-    fn go_round(&mut self, boot: &Boot) -> Result<Vec<Part>, NoMemory>
+    /// Serves the first process of the ring that can be served, which goes to the ring's back; none where there is none.
+    fn go_round(&mut self, boot: &Boot) -> Result<Option<Vec<Part>>, NoMemory>
         requires here { self.old.here < MACHINES }
         requires sent { CanTellAll (kernel_state self.old) }
         requires processes { (p : _) (x : _) → at self.old.records p ≡ Some (Here (resident.Process x)) → MayAct (kernel_state self.old) p x }
         requires idle { KnowsIdle self.old }
-        ensures answers { Answers result self.new (goes_round boot.now (kernel_state self.old) (first_runnable (at self.old.records) self.old.ring)) }
+        ensures answers { Takes result self.new (goes_round boot.now (kernel_state self.old) (first_runnable (at self.old.records) self.old.ring)) }
         ensures idle { OnOk result (KnowsIdle self.new) }
     {
         match self.first_service() {
             Some((place, service)) => {
                 let pid = *self.ring.at(place);
                 move_back(&mut self.ring, place);
-                let parts = self.serve(pid, service, boot.quantum);
+                let parts = self.serve(pid, service, boot.quantum)?;
                 // Serving it changed none of those before it.
                 self.idle = place;
-                parts
+                Ok(Some(parts))
             }
             None => {
                 self.idle = self.ring.len();
-                self.say(Line::Idle(self.here))
+                Ok(None)
             }
         }
     }

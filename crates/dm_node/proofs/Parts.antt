@@ -1,12 +1,13 @@
 -- The parts of a turn, one after another.
-use Rattle.dm_node.proofs.Names.{◌≡◌, suc, List, [], ◌∷◌, length, refl, sym, subst, Result, Option, None, Some, Ok, Err}
+use Rattle.dm_node.proofs.Names.{◌≡◌, suc, List, [], ◌∷◌, ◌++◌, length, refl, sym, subst, Result, Option, None, Some, Ok, Err}
 use Rattle.dm_node.proofs.Names.{All, IsLawfulPart, IsLawfulTurned, Message, Line, Kernel, Part, Turned, Node, Stop, Out, Says, NodeState, Acts, Goes, Worn, behind, then_, acts, routes}
-use Rattle.dm_node.proofs.Names.{turns, Answers, AnswersSome, GaveActs, HasStreams, OrNoMemory, Spoke, Spoken, node_state}
+use Rattle.dm_node.proofs.Names.{turns, Answers, AnswersSome, GaveActs, HasStreams, OrNoMemory, Sent, Spoke, Spoken, node_state, so_far}
+use Rattle.dm_line.specs.declared.line.Line.TheVariants as line
 use Rattle.dm_kernel.specs.declared.part.Part.TheVariants as part
 use Rattle.dm_kernel.specs.Meets as kernel
 use Rattle.dm_node.specs.declared.stop.Stop.TheVariants as stop
 pub use Rattle.dm_kernel.proofs.Opening.{is_state as kernel_is}
-use Rattle.dm_node.proofs.Speaking.{spoke_more, spoke_none}
+use Rattle.dm_node.proofs.Speaking.{spoke_line, spoke_more, spoke_none}
 
 -- what answers the rest answers the whole
 pub answers_behind : (r : Result Unit Stop) (after : Node) (old mid new : Spoken) (outs : List Out) (a : Acts) → Spoke old mid outs → Answers r after mid new a → Answers r after old new (behind outs a)
@@ -40,6 +41,13 @@ none_in (p ∷ ps) h = absurd (let e : suc (length ps) ≡ 0 = h in cc)
 
 pub all_done : (n : Node) (s : Spoken) (ps : List Part) → length ps ≡ 0 → HasStreams n → Answers (Ok tt) n s s (acts (node_state n) ps)
 all_done n s ps e h = subst (λ xs. Answers (Ok tt) n s s (acts (node_state n) xs)) (sym (none_in ps e)) (nothing_left n s h)
+
+-- an idle machine says that alone
+pub idle_said : (n : Node) (wires : List (List Sent)) (old new : List Line) → new ≡ old ++ line.Idle n.kernel.here ∷ [] → HasStreams n
+    → Answers (Ok tt) n (so_far wires old) (so_far wires new) (acts (node_state n) (part.Says (line.Idle n.kernel.here) ∷ []))
+idle_said n wires old new e h =
+    let l = line.Idle n.kernel.here in
+    line_said (Ok tt) n (node_state n) l [] (so_far wires old) (so_far wires new) (so_far wires new) (spoke_line wires old new l e) (nothing_left n (so_far wires new) h)
 
 pub gave_streams : (a : Acts) (after : Node) (old new : Spoken) → GaveActs after old new a → HasStreams after
 gave_streams (Goes a) after old new g = g.streams

@@ -1,8 +1,9 @@
 //! A turn and a tick of a machine.
-ghost use Rattle.std.specs.Prelude.{◌≡◌, ◌<◌, ◌≤◌, ◌+◌, true, OnOk};
+ghost use Rattle.std.specs.Prelude.{◌≡◌, ◌<◌, ◌≤◌, ◌+◌, ◌∷◌, [], List, true, OnOk};
 ghost use Rattle.std.specs.List.{All};
 ghost use Rattle.dm_onekernel.specs.Boot.{images_are_valid};
 ghost use Rattle.dm_packet.specs.Lawful.{IsRoute};
+ghost use Rattle.dm_wire.specs.Sent.{Sent};
 ghost use Rattle.dm_kernel.specs.Carried.{FreezesWhole};
 ghost use Rattle.dm_kernel.specs.Lawful.{IsLawfulPart, IsLawfulState};
 ghost use Rattle.dm_stream.specs.Sending.{outstanding};
@@ -35,9 +36,20 @@ impl Node {
     {
         turns_are_lawful();
         match self.kernel.turn(boot) {
-            Ok(parts) => self.act(parts, wires, lines),
+            Ok(Some(parts)) => self.act(parts, wires, lines),
+            Ok(None) => self.say_idle(lines),
             Err(e) => Err(Stop::NoMemory(e)),
         }
+    }
+
+    /// Says that it is idle.
+    fn say_idle(&self, lines: &mut Vec<Line>) -> Result<(), Stop>
+        requires streams { HasStreams self.now }
+        ensures { (wires : List (List Sent)) → Answers result self.now (so_far wires lines.old.items) (so_far wires lines.new.items)
+            (acts (node_state self.now) (Part.Says (Line.Idle self.now.kernel.here) ∷ [])) }
+    {
+        say(lines, Line::Idle(self.kernel.here()))?;
+        Ok(())
     }
 
     /// Has the manager tell a process or a server to move to a machine, on the machine where the manager is. It speaks as in a turn,

@@ -4,13 +4,13 @@ use Rattle.dm_kernel.proofs.Known.{acts_still}
 use Rattle.dm_kernel.proofs.LawfulTurns.{may_front}
 use Rattle.dm_kernel.proofs.kernel.Kernel.turn.Goals as goal
 
-pub handle-parts-requires-clause-may : goal.handle-parts-requires-clause-may
-handle-parts-requires-clause-may c =
+pub handle-requires-clause-may : goal.handle-requires-clause-may
+handle-requires-clause-may c =
     let s = kernel_state c.args.self.now in
     may_front c.args.boot.now s c.in-Some.message c.pop.new.self (subst (FrontMay c.args.boot.now s) c.in-Some.ensures c.requires.may.front)
 
-pub handle-parts-requires-clause-processes : goal.handle-parts-requires-clause-processes
-handle-parts-requires-clause-processes c = λ p x h. acts_still (kernel_state c.args.self.now) _ p x refl (c.requires.may.processes p x h)
+pub handle-requires-clause-processes : goal.handle-requires-clause-processes
+handle-requires-clause-processes c = λ p x h. acts_still (kernel_state c.args.self.now) _ p x refl (c.requires.may.processes p x h)
 
 pub go_round-requires-clause-processes : goal.go_round-requires-clause-processes
 go_round-requires-clause-processes c = λ p x h. acts_still (kernel_state c.args.self.now) _ p x refl (c.requires.may.processes p x h)
