@@ -18,7 +18,7 @@ place_within name ts k e = omega (arith, place_from_within 0 name ts k e)
 
 pub ruleset named_lemmas = (place_within)
 
-or_none : (o : Option ℕ) → option_or o None ≡ o
+pub or_none : (o : Option ℕ) → option_or o None ≡ o
 or_none None = refl
 or_none (Some k) = refl
 
@@ -30,3 +30,10 @@ is_put false o place none = sym (or_none o)
 pub is_absent : (o : Option ℕ) → is_some o ≡ false → o ≡ None
 is_absent None e = refl
 is_absent (Some k) e = absurd (cc)
+
+-- a name that got a place, or has none yet, and those behind it
+pub put_more : (here : Bool) (o new rest : Option ℕ) (place : ℕ) → new ≡ option_or o (if here then Some place else None) → option_or new rest ≡ option_or o (if here then Some place else rest)
+put_more true None new rest place e = ap (λ (p : Option ℕ). option_or p rest) e
+put_more true (Some k) new rest place e = ap (λ (p : Option ℕ). option_or p rest) e
+put_more false None new rest place e = ap (λ (p : Option ℕ). option_or p rest) e
+put_more false (Some k) new rest place e = ap (λ (p : Option ℕ). option_or p rest) e

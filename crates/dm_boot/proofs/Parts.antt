@@ -125,18 +125,24 @@ whole-stops-images d x e h =
     let broken = unless-err (first_broken image_rules d) x e h in
     rw (all-whole d, broken)
 
-pub whole-stops-starts : {A : Type 0} (d : Data) (x : A) (e : BootRule × ℕ) → first_broken image_rules d ≡ None → unless (first_broken process_rules d) x ≡ Err e → boot_of_table d ≡ Err e
-unfolding boot_of_table
-whole-stops-starts d x e none h =
+-- the rules of processes and of links, one after the other
+pub links-stop : {A B : Type 0} (d : Data) (x : A) (y : B) (e : BootRule × ℕ) → unless (first_broken process_rules d) x ≡ Err e → unless (first_broken (process_rules ++ link_rules) d) y ≡ Err e
+links-stop d x y e h =
     let broken = unless-err (first_broken process_rules d) x e h in
-    rw (all-whole d, none, broken)
+    rw (broken-append process_rules link_rules d, broken)
 
-pub whole-stops-links : {A : Type 0} (d : Data) (x : A) (e : BootRule × ℕ) → first_broken image_rules d ≡ None → first_broken process_rules d ≡ None → unless (first_broken link_rules d) x ≡ Err e → boot_of_table d ≡ Err e
-unfolding boot_of_table
-whole-stops-links d x e none none_too h =
-    let broken = unless-err (first_broken link_rules d) x e h in
-    rw (all-whole d, none, none_too, broken)
+pub links-alone : {A : Type 0} (d : Data) (x : A) → first_broken process_rules d ≡ None → unless (first_broken link_rules d) x ≡ unless (first_broken (process_rules ++ link_rules) d) x
+links-alone d x none = rw (broken-append process_rules link_rules d, none) refl
 
-pub whole-ok : (d : Data) (b : Boot) → first_broken image_rules d ≡ None → first_broken process_rules d ≡ None → first_broken link_rules d ≡ None → system_of d ≡ b → boot_of_table d ≡ Ok b
+later-whole : (d : Data) → first_broken rules d ≡ or_later (first_broken image_rules d) (first_broken (process_rules ++ link_rules) d)
+later-whole d = broken-append image_rules (process_rules ++ link_rules) d
+
+pub whole-stops-later : {A : Type 0} (d : Data) (x : A) (e : BootRule × ℕ) → first_broken image_rules d ≡ None → unless (first_broken (process_rules ++ link_rules) d) x ≡ Err e → boot_of_table d ≡ Err e
 unfolding boot_of_table
-whole-ok d b none none_too none_last built = rw (all-whole d, none, none_too, none_last) (ap (λ (s : Boot). Ok s) built)
+whole-stops-later d x e none h =
+    let broken = unless-err (first_broken (process_rules ++ link_rules) d) x e h in
+    rw (later-whole d, none, broken)
+
+pub whole-ok : (d : Data) (b : Boot) → first_broken image_rules d ≡ None → first_broken (process_rules ++ link_rules) d ≡ None → system_of d ≡ b → boot_of_table d ≡ Ok b
+unfolding boot_of_table
+whole-ok d b none none_later built = rw (later-whole d, none, none_later) (ap (λ (s : Boot). Ok s) built)

@@ -1,12 +1,12 @@
 -- What the tables of a boot file build, where no rule is broken.
-use Rattle.std.specs.Prelude.{ℕ, ◌+◌, ◌-◌, ◌==◌, ◌&&◌, nat_le, None, Some, option_and_then, Bool, true, false, List, [], ◌∷◌, ◌++◌, codes, slice_get, option_map, unwrap_or, if◌then◌else◌}
+use Rattle.std.specs.Prelude.{ℕ, ◌+◌, ◌-◌, ◌==◌, ◌&&◌, nat_le, None, Some, option_and_then, Bool, false, List, [], ◌∷◌, ◌++◌, codes, slice_get, option_map, unwrap_or, if◌then◌else◌}
 use Rattle.std.specs.declared.option.Option.{Option}
 use Rattle.toml.specs.Data.{Data, Items, no_items, item, as_str}
 use Rattle.dm_link.specs.declared.Pid.{Pid}
 use Rattle.dm_link.specs.declared.Area.{Area}
 use Rattle.dm_link.specs.declared.Link.{Link}
 use Rattle.dm_link.specs.declared.Kind.{Kind}
-use Rattle.dm_link.specs.declared.Kind.TheVariants.{General, Reply}
+use Rattle.dm_link.specs.declared.Kind.TheVariants.{General}
 use Rattle.dm_link.specs.Names.{pid_of}
 use Rattle.dm_onekernel.specs.declared.boot.Format.{Format}
 use Rattle.dm_onekernel.specs.declared.boot.Format.TheVariants.{One, Two}

@@ -4,7 +4,7 @@ use Rattle.std.specs.List.{list_any}
 use Rattle.std.specs.Option.{is_none, is_some}
 use Rattle.std.specs.Str.{bytes_eq}
 use Rattle.std.specs.declared.option.Option.{Option}
-use Rattle.toml.specs.Data.{Data, table, array, Items, no_items, item, Members, no_members, member, get, get_item, as_str, as_integer, as_bool, as_array}
+use Rattle.toml.specs.Data.{Data, table, Items, no_items, item, Members, no_members, member, get, get_item, as_str, as_integer, as_bool, as_array}
 
 -- a key is among these
 abbrev pub is_known : List (List ℕ) → List ℕ → Bool

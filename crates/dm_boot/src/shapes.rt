@@ -11,15 +11,17 @@ use crate::tables::{
 };
 use toml::Value;
 
+/// The keys of the top table.
+const TOP_KEYS: [&str; 6] = [
+    "format", "numbers", "quantum", "machine", "image", "process",
+];
+
 /// Whether the top table has only its keys, with the right types.
 #[tactic(auto, unfolding(crate::specs::Rules::is_top))]
 pub fn is_top(value: &Value) -> bool
     ensures { result ≡ is_top (view value.now) }
 {
-    let keys = [
-        "format", "numbers", "quantum", "machine", "image", "process",
-    ];
-    has_only(value, &keys)
+    has_only(value, &TOP_KEYS)
         && may_have_integer(value, "format")
         && may_have_integer(value, "numbers")
         && may_have_integer(value, "quantum")
@@ -117,13 +119,15 @@ fn may_have_place(value: &Value, key: &str) -> bool
     may_have_integer(value, key) || has_text(value, key)
 }
 
+/// The keys of a link that leads to a process or a server.
+const LINK_KEYS: [&str; 8] = [
+    "to", "code", "channel", "base", "len", "reply", "read", "write",
+];
+
 fn is_link_to(value: &Value) -> bool
     ensures { result ≡ is_link_to (view value.now) }
 {
-    let keys = [
-        "to", "code", "channel", "base", "len", "reply", "read", "write",
-    ];
-    has_only(value, &keys)
+    has_only(value, &LINK_KEYS)
         && has_text(value, "to")
         && (may_have_integer(value, "code")
             && may_have_integer(value, "channel")

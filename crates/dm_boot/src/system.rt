@@ -1,5 +1,5 @@
 //! The system of a document's top table.
-ghost use Rattle.std.specs.Prelude.{◌≡◌, ◌≤◌, OnOk, map};
+ghost use Rattle.std.specs.Prelude.{◌≡◌, ◌≤◌, ◌++◌, None, OnOk, map};
 ghost use Rattle.toml.specs.View.{view};
 ghost use Rattle.dm_boot.specs.Before.{before_images};
 ghost use Rattle.dm_boot.specs.Tables.{count};
@@ -37,20 +37,47 @@ pub fn system_of(alloc: Global, top: &Value) -> Result<Boot, BootError>
 fn read_system(alloc: Global, document: &Document<'_>) -> Result<Boot, BootError>
     ensures { Answers (boot_of_table (view document.now.top.now)) result }
 {
-    let images = match read_images(alloc, document) {
-        Ok(images) => images,
-        Err(e) => return Err(e),
-    };
+    match read_images(alloc, document) {
+        Ok(images) => system_of_images(alloc, document, images),
+        Err(e) => Err(e),
+    }
+}
+
+/// The system of a document with these images, of which none breaks a rule.
+fn system_of_images(
+    alloc: Global,
+    document: &Document<'_>,
+    images: Items<BootImage>,
+) -> Result<Boot, BootError>
+    requires none { first_broken image_rules (view document.now.top.now) ≡ None }
+    requires images { images ≡ images_of (view document.now.top.now) }
+    requires few { count (image_tables (view document.now.top.now)) ≤ MOST_IMAGES }
+    ensures { Answers (boot_of_table (view document.now.top.now)) result }
+{
     let machines = match machines_of(alloc, items_at(document.top, "machine")) {
         Ok(machines) => machines,
         Err(none) => return Err(BootError::NoMemory(none)),
     };
-    let starts = match read_starts(alloc, document, machines.as_slice(), images.as_slice()) {
-        Ok(starts) => starts,
-        Err(e) => return Err(e),
-    };
-    match read_processes(alloc, document, starts.as_slice()) {
+    match read_linked(alloc, document, machines.as_slice(), images.as_slice()) {
         Ok(processes) => Ok(system_with(document.top, machines, images, processes)),
+        Err(e) => Err(e),
+    }
+}
+
+/// The processes with their links, where no rule of processes and none of links is broken.
+fn read_linked(
+    alloc: Global,
+    document: &Document<'_>,
+    machines: &[BootMachine],
+    images: &[BootImage],
+) -> Result<Items<BootProcess>, BootError>
+    requires machines { machines.now ≡ machines_of (view document.now.top.now) }
+    requires images { images.now ≡ images_of (view document.now.top.now) }
+    requires few { count (image_tables (view document.now.top.now)) ≤ MOST_IMAGES }
+    ensures { Answers (unless (first_broken (process_rules ++ link_rules) (view document.now.top.now)) (processes_of (view document.now.top.now))) result }
+{
+    match read_starts(alloc, document, machines, images) {
+        Ok(starts) => read_processes(alloc, document, starts.as_slice()),
         Err(e) => Err(e),
     }
 }

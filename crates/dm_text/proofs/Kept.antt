@@ -1,4 +1,5 @@
 -- What a text keeps of its beginning.
+use Rattle.std.specs.Prelude.{OnOk}
 use Rattle.dm_text.proofs.Names.{◌≡◌, ℕ, List, [], ◌∷◌, ◌++◌, length, take, refl, ap, sym, ◌∙◌, append_assoc, append-nil, OnErr, Result, Ok, Err, Keeps, spaced}
 use Rattle.dm_text.proofs.Spacing.{spaced-append}
 
@@ -53,12 +54,29 @@ kept-as (Err y) a t now h e = ap (λ s. take (length a) s) (e ∙ h.is) ∙ fron
 pub kept-all : {T E : Type 0} → (r : Result T E) (a now : List ℕ) → now ≡ a → OnErr r (Keeps a now)
 kept-all r a now e = kept-as r a a now (behind a [] a (sym (append-nil a))) e
 
+-- the same of a call that ends a function
+pub kept-if : {T E : Type 0} → (r : Result T E) (a t now : List ℕ) → Behind a t → OnErr r (now ≡ t) → OnErr r (Keeps a now)
+kept-if {T} {E} (Ok y) a t now h e = tt
+kept-if {T} {E} (Err y) a t now h e = kept-as {T = T} {E = E} (Err y) a t now h e
+
+pub kept-too : {T E : Type 0} → (r : Result T E) (a x before now : List ℕ) → before ≡ a ++ x → OnErr r (Keeps before now) → OnErr r (Keeps a now)
+kept-too {T} {E} (Ok y) a x before now e h = tt
+kept-too {T} {E} (Err y) a x before now e h = kept {T = T} {E = E} (Err y) a x before now e h
+
+-- a call that keeps what was there before it, behind what a text had
+pub kept-behind : {T E : Type 0} → (r : Result T E) (a before now : List ℕ) → Behind a before → OnErr r (Keeps before now) → OnErr r (Keeps a now)
+kept-behind r a before now h k = kept-too r a h.rest before now h.is k
+
 -- a line of one part
-pub named : (into name : List ℕ) (a : List (List ℕ)) (t u v : List ℕ) → t ≡ into ++ name → u ≡ t ++ spaced a → v ≡ u ++ 10 ∷ [] → v ≡ into ++ (name ++ spaced a ++ 10 ∷ [])
-named into name a t u v e f g =
-    g
-    ∙ ap (λ s. s ++ 10 ∷ []) f
-    ∙ append_assoc t (spaced a) (10 ∷ [])
-    ∙ ap (λ s. s ++ (spaced a ++ 10 ∷ [])) e
-    ∙ append_assoc into name (spaced a ++ 10 ∷ [])
-    ∙ ap (λ s. into ++ s) (sym (append_assoc name (spaced a) (10 ∷ [])))
+pub named : (into name s t now : List ℕ) → t ≡ into ++ name ++ s → now ≡ t ++ 10 ∷ [] → now ≡ into ++ (name ++ s ++ 10 ∷ [])
+named into name s t now e f =
+    f
+    ∙ ap (λ x. x ++ 10 ∷ []) e
+    ∙ append_assoc (into ++ name) s (10 ∷ [])
+    ∙ append_assoc into name (s ++ 10 ∷ [])
+    ∙ ap (λ x. into ++ x) (sym (append_assoc name s (10 ∷ [])))
+
+-- a line of several parts, whose last ends the function
+pub listed-last : {T E : Type 0} → (r : Result T E) (into name : List ℕ) (a b c : List (List ℕ)) (t u now : List ℕ) → t ≡ into ++ name ++ spaced a → u ≡ t ++ spaced b → OnOk r (now ≡ u ++ spaced c ++ 10 ∷ []) → OnOk r (now ≡ into ++ (name ++ spaced (a ++ (b ++ c)) ++ 10 ∷ []))
+listed-last (Err y) into name a b c t u now e f g = tt
+listed-last (Ok y) into name a b c t u now e f g = listed-more into name a b c (into ++ name) t u (u ++ spaced c) now refl e f refl g

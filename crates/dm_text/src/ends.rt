@@ -8,10 +8,12 @@ ghost use Rattle.dm_text.specs.Words.{hex, pid_word};
 ghost use Rattle.dm_text.specs.Written.{Keeps, doing_words, end_words, link_words, word_text};
 
 use crate::word::Word::{Byte, Bytes, Message, Name, Number, Process};
-use crate::word::{Word, put_count, put_line, put_listed, put_numbers, put_words};
+use crate::word::{
+    Word, put_begun, put_count, put_last, put_line, put_listed, put_numbers, put_words,
+};
 use dm_line::end_line::{Doing, EndLine, Standing};
 use dm_link::{Area, Kind, Link, Pid};
-use dm_memory::{NoMemory, extend_from_slice, push};
+use dm_memory::{NoMemory, push};
 use dm_message::MsgId;
 use dm_onekernel::Why;
 use dm_process::Direction;
@@ -108,8 +110,7 @@ pub fn put_linked(
     ensures ok { OnOk result (into.new.items ≡ into.old.items ++ spelled_line (name.now ∷ (map word_text words.now ++ link_words link.now))) }
     ensures err { OnErr result (Keeps into.old.items into.new.items) }
 {
-    extend_from_slice(into, name.as_bytes())?;
-    put_words(into, words)?;
+    put_begun(into, name, words)?;
     put_link(into, link)?;
     push(into, b'\n')?;
     Ok(())
@@ -120,12 +121,9 @@ fn put_registers(into: &mut Vec<u8>, pid: Pid, r: &[u32; 16], pc: u32) -> Result
     ensures ok { OnOk result (into.new.items ≡ into.old.items ++ spelled_line (end_words (end.Registers pid r.now pc))) }
     ensures err { OnErr result (Keeps into.old.items into.new.items) }
 {
-    extend_from_slice(into, b"registers")?;
-    put_words(into, &[Process(pid)])?;
+    put_begun(into, "registers", &[Process(pid)])?;
     put_numbers(into, r)?;
-    put_words(into, &[Number(pc)])?;
-    push(into, b'\n')?;
-    Ok(())
+    put_last(into, &[Number(pc)])
 }
 
 /// Writes the words for what a process does, each behind a space.
@@ -176,12 +174,9 @@ fn put_process(
         (codes "process" ∷ (map word_text front.entry ++ (doing_words doing ++ map word_text back.entry)))) }
     ensures err { OnErr result (Keeps into.old.items into.new.items) }
 {
-    extend_from_slice(into, b"process")?;
-    put_words(into, &front)?;
+    put_begun(into, "process", &front)?;
     put_doing(into, doing)?;
-    put_words(into, &back)?;
-    push(into, b'\n')?;
-    Ok(())
+    put_last(into, &back)
 }
 
 /// Writes the line of a process that has not ended, of its place and of what it does.

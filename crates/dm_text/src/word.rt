@@ -155,13 +155,31 @@ pub(crate) fn put_numbers(into: &mut Vec<u8>, numbers: &[u32]) -> Result<(), NoM
     Ok(())
 }
 
+/// Writes the beginning of a line: a name and further words.
+pub(crate) fn put_begun(into: &mut Vec<u8>, name: &str, words: &[Word]) -> Result<(), NoMemory>
+    ensures ok { OnOk result (into.new.items ≡ into.old.items ++ name.now ++ spaced (map word_text words.now)) }
+    ensures err { OnErr result (Keeps into.old.items into.new.items) }
+{
+    extend_from_slice(into, name.as_bytes())?;
+    put_words(into, words)
+}
+
+/// Writes the last words of a line, each behind a space, and ends it.
+pub(crate) fn put_last(into: &mut Vec<u8>, words: &[Word]) -> Result<(), NoMemory>
+    ensures ok { OnOk result (into.new.items ≡ into.old.items ++ spaced (map word_text words.now) ++ codes "\n") }
+    ensures err { OnErr result (Keeps into.old.items into.new.items) }
+{
+    put_words(into, words)?;
+    push(into, b'\n')?;
+    Ok(())
+}
+
 /// Writes a line of a name and further words.
 pub(crate) fn put_line(into: &mut Vec<u8>, name: &str, words: &[Word]) -> Result<(), NoMemory>
     ensures ok { OnOk result (into.new.items ≡ into.old.items ++ spelled_line (name.now ∷ map word_text words.now)) }
     ensures err { OnErr result (Keeps into.old.items into.new.items) }
 {
-    extend_from_slice(into, name.as_bytes())?;
-    put_words(into, words)?;
+    put_begun(into, name, words)?;
     push(into, b'\n')?;
     Ok(())
 }
@@ -176,8 +194,7 @@ pub(crate) fn put_listed(
     ensures ok { OnOk result (into.new.items ≡ into.old.items ++ spelled_line (name.now ∷ (map word_text words.now ++ spellings (map message_word ids.now)))) }
     ensures err { OnErr result (Keeps into.old.items into.new.items) }
 {
-    extend_from_slice(into, name.as_bytes())?;
-    put_words(into, words)?;
+    put_begun(into, name, words)?;
     put_ids(into, ids)?;
     push(into, b'\n')?;
     Ok(())

@@ -6,13 +6,13 @@ use Rattle.dm_boot.proofs.system.read_images.Goals as goal
 pub returns-in-Some-clause-images : goal.returns-in-Some-clause-images
 returns-in-Some-clause-images c =
     let d = view c.args.document.now.top.now in
-    let broken : first_broken before_images d ≡ Some (c.in-Some.rule, c.in-Some.place) = cc in
+    let broken : first_broken before_images d ≡ Some (c.in-Some.rule, c.in-Some.place) = ap (λ (rs : List BootRule). first_broken rs d) (sym c.before_images-before.ensures) ∙ sym c.first_broken.ensures ∙ c.in-Some.is in
     rw (images-whole d, broken)
 
 pub returns-in-Err-clause-images : goal.returns-in-Err-clause-images
 returns-in-Err-clause-images c =
     let d = view c.args.document.now.top.now in
-    let none : first_broken before_images d ≡ None = cc in
+    let none : first_broken before_images d ≡ None = ap (λ (rs : List BootRule). first_broken rs d) (sym c.before_images-before.ensures) ∙ sym c.first_broken.ensures ∙ c.in_default.is in
     let ts = items_view c.items_at.result.now in
     let same : ts ≡ image_tables d = c.items_at.ensures in
     pass-err (unless_at ImageText (first_unassembled 0 ts) (map_items image_of ts)) (unless (first_broken image_rules d) (images_of d)) c.in-Err.e
@@ -26,28 +26,28 @@ returns-in-Err-clause-images c =
 pub returns-in-Some-first_long-clause-images : goal.returns-in-Some-first_long-clause-images
 returns-in-Some-first_long-clause-images c =
     let d = view c.args.document.now.top.now in
-    let none : first_broken before_images d ≡ None = cc in
+    let none : first_broken before_images d ≡ None = ap (λ (rs : List BootRule). first_broken rs d) (sym c.before_images-before.ensures) ∙ sym c.first_broken.ensures ∙ c.in_default.is in
     let ts = items_view c.items_at.result.now in
     let same : ts ≡ image_tables d = c.items_at.ensures in
     let (all, built) = at-ok ImageText (first_unassembled 0 ts) (map_items image_of ts) c.in-Ok.images c.in-Ok.ensures in
     let texts : first_unassembled 0 (image_tables d) ≡ None = rw (← same) all in
-    let long : first_long 0 (images_of d) ≡ Some c.in-Some-first_long.place = rw (← same, built) cc in
+    let long : first_long 0 (images_of d) ≡ Some c.in-Some-first_long.place = rw (← same, built) (ap (first_long 0) (sym c.as_slice.ensures) ∙ sym c.first_long.ensures ∙ c.in-Some-first_long.is) in
     rw (images-whole d, none, texts, long)
 
 pub returns-clause-images : goal.returns-clause-images
 returns-clause-images c =
     let d = view c.args.document.now.top.now in
-    let none : first_broken before_images d ≡ None = cc in
+    let none : first_broken before_images d ≡ None = ap (λ (rs : List BootRule). first_broken rs d) (sym c.before_images-before.ensures) ∙ sym c.first_broken.ensures ∙ c.in_default.is in
     let ts = items_view c.items_at.result.now in
     let same : ts ≡ image_tables d = c.items_at.ensures in
     let (all, built) = at-ok ImageText (first_unassembled 0 ts) (map_items image_of ts) c.in-Ok.images c.in-Ok.ensures in
     let texts : first_unassembled 0 (image_tables d) ≡ None = rw (← same) all in
     let whole : images_of d ≡ c.in-Ok.images = rw (← same) built in
-    let long : first_long 0 (images_of d) ≡ None = rw whole cc in
+    let long : first_long 0 (images_of d) ≡ None = rw whole (ap (first_long 0) (sym c.as_slice.ensures) ∙ sym c.first_long.ensures ∙ c.in_default-first_long.is) in
     rw (images-whole d, none, texts, long) (ap (λ (l : List BootImage). Ok l) whole)
 
 pub returns-clause-few : goal.returns-clause-few
 returns-clause-few c =
     let d = view c.args.document.now.top.now in
-    let none : first_broken before_images d ≡ None = cc in
+    let none : first_broken before_images d ≡ None = ap (λ (rs : List BootRule). first_broken rs d) (sym c.before_images-before.ensures) ∙ sym c.first_broken.ensures ∙ c.in_default.is in
     few-images d none

@@ -1,23 +1,13 @@
-use Rattle.dm_text.proofs.Kept.{behind, further, kept, kept-all, kept-as, kept-twice, kept-thrice, listed-more}
+use Rattle.dm_text.proofs.Names.{codes, refl}
+use Rattle.dm_text.proofs.Kept.{behind, further, kept-behind, kept-twice, listed-last}
 use Rattle.dm_text.proofs.ends.put_process.Goals as goal
 
 pub returns-clause-ok : goal.returns-clause-ok
-returns-clause-ok c =
-    listed-more _ _ _ _ _ _ _ _ _ _ c.in_ok-extend_from_slice.ensures.items c.in_ok-put_words.ensures.ok c.in_ok-put_doing.ensures.ok c.in_ok-put_words-2.ensures.ok c.in_ok-push.ensures.items
+returns-clause-ok c = listed-last _ _ (codes "process") _ _ _ _ _ _ c.in_ok-put_begun.ensures.ok c.in_ok-put_doing.ensures.ok c.put_last.ensures.ok
+
+pub returns-clause-err : goal.returns-clause-err
+returns-clause-err c =
+    kept-behind _ _ _ _ (further _ _ _ _ (further _ _ _ _ (behind c.args.into.now.items (codes "process") _ refl) c.in_ok-put_begun.ensures.ok) c.in_ok-put_doing.ensures.ok) c.put_last.ensures.err
 
 pub returns-in_err-put_doing-clause-err : goal.returns-in_err-put_doing-clause-err
-returns-in_err-put_doing-clause-err c = kept-twice _ _ _ _ _ _ _ c.in_ok-extend_from_slice.ensures.items c.in_ok-put_words.ensures.ok c.in_err-put_doing.ensures.err
-
-pub returns-in_err-put_words-2-clause-err : goal.returns-in_err-put_words-2-clause-err
-returns-in_err-put_words-2-clause-err c =
-    kept-thrice _ _ _ _ _ _ _ _ _ c.in_ok-extend_from_slice.ensures.items c.in_ok-put_words.ensures.ok c.in_ok-put_doing.ensures.ok c.in_err-put_words-2.ensures.err
-
-pub returns-in_err-extend_from_slice-clause-err : goal.returns-in_err-extend_from_slice-clause-err
-returns-in_err-extend_from_slice-clause-err c = kept-all _ _ _ c.in_err-extend_from_slice.ensures.items
-
-pub returns-in_err-put_words-clause-err : goal.returns-in_err-put_words-clause-err
-returns-in_err-put_words-clause-err c = kept _ _ _ _ _ c.in_ok-extend_from_slice.ensures.items c.in_err-put_words.ensures.err
-
-pub returns-in_err-push-clause-err : goal.returns-in_err-push-clause-err
-returns-in_err-push-clause-err c =
-    kept-as _ _ _ _ (further _ _ _ _ (further _ _ _ _ (further _ _ _ _ (behind _ _ _ c.in_ok-extend_from_slice.ensures.items) c.in_ok-put_words.ensures.ok) c.in_ok-put_doing.ensures.ok) c.in_ok-put_words-2.ensures.ok) c.in_err-push.ensures.items
+returns-in_err-put_doing-clause-err c = kept-twice _ c.args.into.now.items (codes "process") _ _ _ _ refl c.in_ok-put_begun.ensures.ok c.in_err-put_doing.ensures.err

@@ -1,5 +1,6 @@
 use Rattle.std.proofs.lemmas.List.Elements.{All-more}
-use Rattle.dm_text.proofs.Names.{◌<◌, length, take, ap, ◌∙◌, arith, LineFits}
+use Rattle.std.proofs.lemmas.List.{take_all}
+use Rattle.dm_text.proofs.Names.{◌<◌, ◌++◌, length, take, ap, ◌∙◌, arith, LineFits, text_of_lines}
 use Rattle.dm_text.proofs.Lines.{lines-none, lines-more}
 use Rattle.dm_text.proofs.Pages.{room_back, same_before}
 use Rattle.dm_text.proofs.text.put_lines.Goals as goal
@@ -29,3 +30,6 @@ returns-in_err-make_room-clause-same c =
 pub returns-clause-same : goal.returns-clause-same
 returns-clause-same c =
     same_before c.args.start c.loop-line.at c.args.page.now.items c.loop-line.page.items _ (omega arith) (omega arith) c.loop-line.invariant.written
+
+pub returns-clause-written : goal.returns-clause-written
+returns-clause-written c = c.loop-line.invariant.written ∙ ap (λ ls. take c.args.start c.args.page.now.items ++ text_of_lines ls) (take_all c.loop-line.line-index c.args.lines.now c.loop-line-test.false)
