@@ -15,6 +15,7 @@ use Rattle.dm_laws.proofs.Grown.{LifeGrows, Went-bag, with_process-lives}
 use Rattle.dm_laws.proofs.Sound.{Sound, Serves, plus, leaves, sends, answers, begins, follows_no_more, server_sends, served_on, born}
 use Rattle.dm_laws.proofs.Steps.{bind-is, when-is, After, quiet, puts, was_none, at_hand-is}
 use Rattle.dm_laws.proofs.Names.{option_map_or}
+use Rattle.dm_laws.proofs.Facts.{none_some}
 
 -- a server's answer: nothing, and its count stays, or a message under its count, which it raises
 abbrev pub ServerSends : Pid → ℕ → Option PlainMessage → ℕ → Type 0
@@ -30,7 +31,7 @@ pub board_takes_lem : (b : Switchboard) (m : PlainMessage) (w : PlainWhat) (k : 
 board_takes_lem b m (PlainWhat.User code channel body links) k e =
     let f : board.takes_request b body links ≡ k = cc in
     (refl, refl, subst (λ (v : board.BoardTook). ServerSends switchboard b.sent v.answer v.switchboard.sent) f (board_request b body links))
-board_takes_lem b m _ k e = cc
+board_takes_lem b m _ k e = none_some k e
 
 -- the manager: its children and its count only rise
 pub record ManagerSends (g : Manager) (k : manage.ManagerTook) : Type 0 where
@@ -68,7 +69,7 @@ control_is : (b c d : Bool) (w : PlainWhat) → (if b then Some PlainWhat.Stop e
 control_is true c d w e = let f : PlainWhat.Stop ≡ w = cc in (sym (ap is_of_memory f), sym (ap is_piece f))
 control_is false true d w e = let f : PlainWhat.Resume ≡ w = cc in (sym (ap is_of_memory f), sym (ap is_piece f))
 control_is false false true w e = let f : PlainWhat.Kill ≡ w = cc in (sym (ap is_of_memory f), sym (ap is_piece f))
-control_is false false false w e = cc
+control_is false false false w e = none_some w e
 
 manager_controls_child : (g : Manager) (child : Pid) (o : Option PlainWhat) (links : List PlainLink) → ((w : PlainWhat) → o ≡ Some w → (is_of_memory w ≡ false) × (is_piece w ≡ false))
     → ManagerSends g (option_map_or (manage.tells g child) o (manage.bad_request g links))
@@ -91,21 +92,21 @@ append-longer [] y = refl
 append-longer (x ∷ xs) y = omega (arith, append-longer xs y)
 
 manager_created : (g : Manager) (n : ℕ) (child : Pid) (o : Option Pending) (k : manage.ManagerTook) → (manage.takes_answer g n (g.children ++ child ∷ []) 0 (manage.control_link (length g.children + 1) ∷ [])) o ≡ Some k → ManagerSends g k
-manager_created g n child None k e = cc
+manager_created g n child None k e = none_some k e
 manager_created g n child (Some r) k e =
     let h = record g { children = g.children ++ child ∷ []; pending = manage.without_pending n g.pending } in
     let f : manage.answers_over h r.answer 0 (manage.control_link (length g.children + 1) ∷ []) ≡ k = cc in
     subst (ManagerSends g) f (manager_over g h r.answer 0 (manage.control_link (length g.children + 1) ∷ []) refl (let z = append-longer g.children child in omega (arith, z)))
 
 manager_no_room : (g : Manager) (n : ℕ) (o : Option Pending) (k : manage.ManagerTook) → (manage.takes_answer g n g.children 1 []) o ≡ Some k → ManagerSends g k
-manager_no_room g n None k e = cc
+manager_no_room g n None k e = none_some k e
 manager_no_room g n (Some r) k e =
     let h = record g { pending = manage.without_pending n g.pending } in
     let f : manage.answers_over h r.answer 1 [] ≡ k = cc in
     subst (ManagerSends g) f (manager_over g h r.answer 1 [] refl (omega arith))
 
 manager_moved : (g : Manager) (n : ℕ) (outcome : Outcome) (o : Option Pending) (k : manage.ManagerTook) → (manage.takes_answer g n g.children (code_of_outcome outcome) []) o ≡ Some k → ManagerSends g k
-manager_moved g n outcome None k e = cc
+manager_moved g n outcome None k e = none_some k e
 manager_moved g n outcome (Some r) k e =
     let h = record g { pending = manage.without_pending n g.pending } in
     let f : manage.answers_over h r.answer (code_of_outcome outcome) [] ≡ k = cc in
@@ -124,7 +125,7 @@ manager_takes_lem g machines images m (PlainWhat.User code channel body links) k
 manager_takes_lem g machines images m (PlainWhat.Created child) k e = (refl, refl, manager_created g m.id.n child (manage.pending_numbered m.id.n g.pending) k e)
 manager_takes_lem g machines images m PlainWhat.NoRoom k e = (refl, refl, manager_no_room g m.id.n (manage.pending_numbered m.id.n g.pending) k e)
 manager_takes_lem g machines images m (PlainWhat.Moved outcome) k e = (refl, refl, manager_moved g m.id.n outcome (manage.pending_numbered m.id.n g.pending) k e)
-manager_takes_lem g machines images m _ k e = cc
+manager_takes_lem g machines images m _ k e = none_some k e
 
 counts_at : (b c : Bool) (n x x' g g' : ℕ) (l l' : Option Life) → l' ≡ l → g ≤ g' → x ≤ x' → (if b then nat_lt n x else if c then nat_lt n g else is_counted n l) ≡ true → (if b then nat_lt n x' else if c then nat_lt n g' else is_counted n l') ≡ true
 counts_at true c n x x' g g' l l' e p q h = grind (arith, nat_tests)
@@ -203,7 +204,7 @@ takes_by r e s t id m false true there is h =
     let (memory, piece, sends) = manager_takes_lem s.manager s.machines (length s.images) m m.what k took in
     let f : service.manager_took s id k ≡ t = cc in
     subst (After r e s (Label.Took id)) f (after_manager r e s id k (unawaited s id m there memory piece h.movers) sends h k.message refl)
-takes_by r e s t id m false false there is h = cc
+takes_by r e s t id m false false there is h = none_some t is
 
 pub after_took : (r e : MsgId → ℕ) (s t : OneKernel) (id : MsgId) → step.step s (Label.Took id) ≡ Some t → Sound r e s → After r e s (Label.Took id) t
 after_took r e s t id is h =
@@ -213,7 +214,7 @@ after_took r e s t id is h =
 -- a message whose receiver has ended
 pub why_ended-is : (l : Option Life) (y : Why) → step.why_ended l ≡ Some y → l ≡ Some (Ended y)
 why_ended-is (Some (Ended z)) y e = ap (λ (v : Why). Some (Ended v)) (let f : z ≡ y = cc in f)
-why_ended-is _ y e = cc
+why_ended-is _ y e = none_some y e
 
 apart_of : (s : OneKernel) (p q : Pid) (y : Why) (z : PlainProcess) (b : Bool) → pid_eq p q ≡ b → s.processes p ≡ Some (Ended y) → s.processes q ≡ Some (Alive z) → b ≡ false
 apart_of s p q y z false e f g = refl
@@ -264,7 +265,7 @@ pub gone_so : (v w : PlainWhat) → gone_what v ≡ Some w → IsGoneSo v w
 gone_so (PlainWhat.Read a b) w e = let f : PlainWhat.Gone ≡ w = cc in (refl, sym (ap asks f), sym (ap is_of_memory f), sym (ap is_piece f))
 gone_so (PlainWhat.Write a b) w e = let f : PlainWhat.Gone ≡ w = cc in (refl, sym (ap asks f), sym (ap is_of_memory f), sym (ap is_piece f))
 gone_so (PlainWhat.Move a) w e = let f : PlainWhat.Moved Outcome.Ended ≡ w = cc in (refl, sym (ap asks f), sym (ap is_of_memory f), sym (ap is_piece f))
-gone_so _ w e = cc
+gone_so _ w e = none_some w e
 
 pub after_gone : (r e : MsgId → ℕ) (s t : OneKernel) (id : MsgId) → step.step s (Label.Gone id) ≡ Some t → Sound r e s → After r e s (Label.Gone id) t
 after_gone r e s t id is h =
@@ -280,7 +281,7 @@ no_room_row : (r e : MsgId → ℕ) (s t : OneKernel) (id : MsgId) (m : PlainMes
 no_room_row r e s t id m (PlainWhat.Create image links) a b w there is h =
     let k = when-is _ (with_sent (without_message s id) (Some (answer_to m PlainWhat.NoRoom))) t is in
     subst (After r e s (Label.NoSpace id a b)) k.1 (answer_row r e s id m PlainWhat.NoRoom (Label.NoSpace id a b) there (ap asks w) refl refl (sym (ap is_of_memory w)) (λ i. refl) h)
-no_room_row r e s t id m _ a b w there is h = cc
+no_room_row r e s t id m _ a b w there is h = none_some t is
 
 pub after_no_space : (r e : MsgId → ℕ) (s t : OneKernel) (id : MsgId) (a b : ℕ) → step.step s (Label.NoSpace id a b) ≡ Some t → Sound r e s → After r e s (Label.NoSpace id a b) t
 after_no_space r e s t id a b is h =
@@ -340,7 +341,7 @@ creates_row : (r e : MsgId → ℕ) (s t : OneKernel) (id : MsgId) (m : PlainMes
 creates_row r e s t id m child (PlainWhat.Create image links) w there is h =
     let (i, found, rest) = bind-is (slice_get s.images image) (service.creates_of s id m child links) t is in
     created_row r e s t id m child links i there (ap asks w) (ap is_of_memory w) rest h
-creates_row r e s t id m child _ w there is h = cc
+creates_row r e s t id m child _ w there is h = none_some t is
 
 pub after_created : (r e : MsgId → ℕ) (s t : OneKernel) (id : MsgId) (child : Pid) → step.step s (Label.Created id child) ≡ Some t → Sound r e s → After r e s (Label.Created id child) t
 after_created r e s t id child is h =
@@ -355,7 +356,7 @@ follows_row r e s t id m x (PlainWhat.Move machine) w there free alive is h =
     let k : u ≡ t = cc in
     subst (After r e s (Label.Asked id)) k
     (quiet r e s u (Label.Asked id) (λ i. refl) (stayed s id) (Went-bag s u (λ q. refl) (λ n. refl) (omega arith) (omega arith) (omega arith)) (begins r e s id m machine x there w free alive h))
-follows_row r e s t id m x _ w there free alive is h = cc
+follows_row r e s t id m x _ w there free alive is h = none_some t is
 
 pub after_asked : (r e : MsgId → ℕ) (s t : OneKernel) (id : MsgId) → step.step s (Label.Asked id) ≡ Some t → Sound r e s → After r e s (Label.Asked id) t
 after_asked r e s t id is h =

@@ -11,6 +11,7 @@ use Rattle.dm_laws.proofs.Movers.{IsUnawaited, unawaited, unawaited_taken, staye
 use Rattle.dm_laws.proofs.Grown.{Went-process}
 use Rattle.dm_laws.proofs.Sound.{Sound, plus, goes, ending, leaves, sends, answers}
 use Rattle.dm_laws.proofs.Steps.{Sent-from, bind-is, After, quiet, puts, was_none}
+use Rattle.dm_laws.proofs.Facts.{none_some}
 
 -- the process takes a message that nobody waits for
 takes_quiet : (r e : MsgId → ℕ) (s : OneKernel) (id : MsgId) (m : PlainMessage) (x y : PlainProcess) (l : Label) → IsUnawaited s id
@@ -56,7 +57,7 @@ goes_on-lands p x z dir owner base own left false sent pending =
 
 if_lands : (p : Pid) (x : PlainProcess) (b : Bool) (k c : pieces.Landed) → LandsSo p x k → (if b then Some k else None) ≡ Some c → LandsSo p x c
 if_lands p x true k c h e = let f : k ≡ c = cc in subst (LandsSo p x) f h
-if_lands p x false k c h e = cc
+if_lands p x false k c h e = none_some c e
 
 lands_what-is : (p : Pid) (x : PlainProcess) (dir : Direction) (owner : Pid) (base own left : ℕ) (w : PlainWhat) (c : pieces.Landed) → pieces.lands_what p x dir owner base own left w ≡ Some c → LandsSo p x c
 lands_what-is p x Direction.FromArea owner base own left (PlainWhat.Block bytes) c e =
@@ -66,15 +67,15 @@ lands_what-is p x Direction.IntoArea owner base own left PlainWhat.Written c e =
     if_lands p x _ (pieces.move_goes_on p x Direction.IntoArea owner base own left (pieces.piece_of left)) c (goes_on-lands p x x Direction.IntoArea owner (base + pieces.piece_of left) (own + pieces.piece_of left) (left - pieces.piece_of left) (left - pieces.piece_of left == 0) refl refl) e
 lands_what-is p x Direction.FromArea owner base own left PlainWhat.Gone c e = let k : pieces.done Reply.Gone x ≡ c = cc in subst (LandsSo p x) k (refl, refl)
 lands_what-is p x Direction.IntoArea owner base own left PlainWhat.Gone c e = let k : pieces.done Reply.Gone x ≡ c = cc in subst (LandsSo p x) k (refl, refl)
-lands_what-is p x _ owner base own left _ c e = cc
+lands_what-is p x _ owner base own left _ c e = none_some c e
 
 if_lands_what : (p : Pid) (x : PlainProcess) (b : Bool) (dir : Direction) (owner : Pid) (base own left : ℕ) (w : PlainWhat) (c : pieces.Landed) → (if b then pieces.lands_what p x dir owner base own left w else None) ≡ Some c → LandsSo p x c
 if_lands_what p x true dir owner base own left w c e = lands_what-is p x dir owner base own left w c e
-if_lands_what p x false dir owner base own left w c e = cc
+if_lands_what p x false dir owner base own left w c e = none_some c e
 
 pub lands-is : (p : Pid) (x : PlainProcess) (m : PlainMessage) (st : PlainStatus) (c : pieces.Landed) → pieces.lands p x m st ≡ Some c → LandsSo p x c
 lands-is p x m (Moving dir owner base own left pending) c e = if_lands_what p x (m.id.n == pending) dir owner base own left m.what c e
-lands-is p x m _ c e = cc
+lands-is p x m _ c e = none_some c e
 
 twice_at : (b : Bool) (x y z : Option Life) → (if b then x else if b then y else z) ≡ (if b then x else z)
 twice_at true x y z = refl
@@ -167,4 +168,4 @@ after_serves r e s t id m x (PlainWhat.Write base bytes) w there is free e_ h =
 after_serves r e s t id m x (PlainWhat.Block bytes) w there is free e_ h = lands_row r e s t id m x there is free (ap is_piece w) e_ h
 after_serves r e s t id m x PlainWhat.Written w there is free e_ h = lands_row r e s t id m x there is free (ap is_piece w) e_ h
 after_serves r e s t id m x PlainWhat.Gone w there is free e_ h = lands_row r e s t id m x there is free (ap is_piece w) e_ h
-after_serves r e s t id m x _ w there is free e_ h = cc
+after_serves r e s t id m x _ w there is free e_ h = none_some t e_

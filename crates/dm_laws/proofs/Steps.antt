@@ -10,15 +10,16 @@ use Rattle.dm_laws.proofs.Counted.{Sent, Counts, Completes, call-counts, complet
 use Rattle.dm_laws.proofs.Movers.{unawaited, stayed, came, sent_at, sent_off}
 use Rattle.dm_laws.proofs.Grown.{Grown, Went, Went-process}
 use Rattle.dm_laws.proofs.Sound.{Sound, Sound-same, plus, goes, ending, received, sends}
+use Rattle.dm_laws.proofs.Facts.{none_some}
 
 -- what there is where a chain of steps gave something
 pub bind-is : {A B : Type 0} (o : Option A) (go : A → Option B) (t : B) → bind o go ≡ Some t → (x : A) × (o ≡ Some x) × (go x ≡ Some t)
-bind-is None go t e = cc
+bind-is None go t e = none_some t e
 bind-is (Some x) go t e = (x, refl, e)
 
 pub when-is : {A : Type 0} (b : Bool) (x t : A) → when b x ≡ Some t → (b ≡ true) × (x ≡ t)
 when-is true x t e = (refl, cc)
-when-is false x t e = cc
+when-is false x t e = none_some t e
 
 -- a step that brings s to t keeps what is sound, and lets lives and counts grow
 pub record After (r e : MsgId → ℕ) (s : OneKernel) (l : Label) (t : OneKernel) : Type 0 where
@@ -94,23 +95,23 @@ pub record Runs (s : OneKernel) (p : Pid) (x : PlainProcess) : Type 0 where
 
 pub alive-is : (l : Option Life) (x : PlainProcess) → step.alive l ≡ Some x → l ≡ Some (Alive x)
 alive-is (Some (Alive y)) x e = cc
-alive-is _ x e = cc
+alive-is _ x e = none_some x e
 
 -- a process at hand lives, and follows no request
 unless_noted-is : (n : Option MoveNote) (o : Option PlainProcess) (x : PlainProcess) → (option_map_or (λ note. None) n o) ≡ Some x → (n ≡ None) × (o ≡ Some x)
 unless_noted-is None o x e = (refl, e)
-unless_noted-is (Some n) o x e = cc
+unless_noted-is (Some n) o x e = none_some x e
 
 pub at_hand-is : (s : OneKernel) (p : Pid) (x : PlainProcess) → step.at_hand s p ≡ Some x → (s.notes p ≡ None) × (s.processes p ≡ Some (Alive x))
 at_hand-is s p x e = let k = unless_noted-is (s.notes p) (step.alive (s.processes p)) x e in (k.0, alive-is (s.processes p) x k.1)
 
 if_stopped-is : (y : PlainProcess) (b : Bool) (x : PlainProcess) → (if b then None else Some y) ≡ Some x → (y ≡ x) × (pending_of Ready ≡ None)
-if_stopped-is y true x e = cc
+if_stopped-is y true x e = none_some x e
 if_stopped-is y false x e = (cc, refl)
 
 pub if_ready-is : (y : PlainProcess) (st : PlainStatus) (x : PlainProcess) → step.if_ready y st ≡ Some x → (y ≡ x) × (pending_of st ≡ None)
 if_ready-is y Ready x e = if_stopped-is y y.stopped x e
-if_ready-is y _ x e = cc
+if_ready-is y _ x e = none_some x e
 
 pub runs : (s : OneKernel) (p : Pid) (x : PlainProcess) → step.running s p ≡ Some x → Runs s p x
 runs s p x e =
@@ -125,7 +126,7 @@ NextCounts p x (step.Calls number called) = (y : PlainProcess) × (y.sent ≡ x.
 NextCounts p x (step.Faults fault) = ⊤
 
 next_row-counts : (p : Pid) (x : PlainProcess) (w : Row) (n : step.Trap) → step.next_row p x w ≡ Some n → NextCounts p x n
-next_row-counts p x (Row.Plain regs bytes) n e = cc
+next_row-counts p x (Row.Plain regs bytes) n e = none_some n e
 next_row-counts p x (Row.Calls number regs) n e =
     let k : step.Calls number (calls.call p (record x { regs = regs }) number) ≡ n = cc in
     subst (NextCounts p x) k (record x { regs = regs }, refl, refl, call-counts p (record x { regs = regs }) number)
@@ -164,7 +165,7 @@ after_replies r e s t p n c (step.Calls number (calls.Replies reply y)) w is h =
     let k = when-is _ (step.goes_on s p y) t is in
     subst (After r e s (Label.Call p n c)) k.1
     (process_goes r e s p w.x y (Label.Call p n c) w.is.alive w.is.free (counted.0 ∙ sent) (inl (counted.1 ∙ pending)) (λ i. refl) h)
-after_replies r e s t p n c _ w is h = cc
+after_replies r e s t p n c _ w is h = none_some t is
 
 -- a process sends as one of the same count
 pub Sent-from : (p : Pid) (x z : PlainProcess) (m : PlainMessage) (y : PlainProcess) → z.sent ≡ x.sent → pending_of z.status ≡ pending_of x.status → Sent p z m y → Sent p x m y
@@ -194,21 +195,21 @@ after_sends r e s t p id (step.Calls number (calls.Sends m y)) w is h =
     let k = when-is _ (with_sent (step.goes_on s p y) (Some m)) t is in
     subst (After r e s (Label.Send p id)) k.1
     (process_sends r e s p w.x y m (Label.Send p id) w.is.alive w.is.free (Sent-from p w.x z m y sent pending counted) (λ i. refl) h)
-after_sends r e s t p id _ w is h = cc
+after_sends r e s t p id _ w is h = none_some t is
 
 pub after_waits : (r e : MsgId → ℕ) (s t : OneKernel) (p : Pid) (next : step.Trap) → Nexts s p next → step.waits s p next ≡ Some t → Sound r e s → After r e s (Label.Wait p) t
 after_waits r e s t p (step.Calls number (calls.Waits y)) w is h =
     let (z, sent, pending, counted) = w.counts in
     let k : step.goes_on s p y ≡ t = cc in
     subst (After r e s (Label.Wait p)) k (process_goes r e s p w.x y (Label.Wait p) w.is.alive w.is.free (counted.0 ∙ sent) (inr counted.1) (λ i. refl) h)
-after_waits r e s t p _ w is h = cc
+after_waits r e s t p _ w is h = none_some t is
 
 pub after_outputs : (r e : MsgId → ℕ) (s t : OneKernel) (p : Pid) (word : ℕ) (next : step.Trap) → Nexts s p next → step.outputs s p word next ≡ Some t → Sound r e s → After r e s (Label.Out p word) t
 after_outputs r e s t p word (step.Calls number (calls.Outputs put y)) w is h =
     let (z, sent, pending, counted) = w.counts in
     let k = when-is _ (step.goes_on s p y) t is in
     subst (After r e s (Label.Out p word)) k.1 (process_goes r e s p w.x y (Label.Out p word) w.is.alive w.is.free (counted.0 ∙ sent) (inl (counted.1 ∙ pending)) (λ i. refl) h)
-after_outputs r e s t p word _ w is h = cc
+after_outputs r e s t p word _ w is h = none_some t is
 
 process_ends : (r e : MsgId → ℕ) (s : OneKernel) (p : Pid) (x : PlainProcess) (y : Why) (l : Label) → s.processes p ≡ Some (Alive x) → s.notes p ≡ None
     → ((i : MsgId) → reception i l ≡ 0) → Sound r e s → After r e s l (with_process s p (Ended y))
@@ -216,10 +217,10 @@ process_ends r e s p x y l is free none h =
     quiet r e s (with_process s p (Ended y)) l none (λ i z f. f) (Went-process s (with_process s p (Ended y)) p x (Ended y) is tt free (λ q. refl) (λ n. refl) refl refl) (ending r e s p x y is free h)
 
 pub after_ends : (r e : MsgId → ℕ) (s t : OneKernel) (p : Pid) (y : Why) (next : step.Trap) → Nexts s p next → step.ends s p y next ≡ Some t → Sound r e s → After r e s (Label.End p y) t
-after_ends r e s t p y (step.Calls number (calls.Replies reply z)) w is h = cc
-after_ends r e s t p y (step.Calls number (calls.Sends m z)) w is h = cc
-after_ends r e s t p y (step.Calls number (calls.Waits z)) w is h = cc
-after_ends r e s t p y (step.Calls number (calls.Outputs word z)) w is h = cc
+after_ends r e s t p y (step.Calls number (calls.Replies reply z)) w is h = none_some t is
+after_ends r e s t p y (step.Calls number (calls.Sends m z)) w is h = none_some t is
+after_ends r e s t p y (step.Calls number (calls.Waits z)) w is h = none_some t is
+after_ends r e s t p y (step.Calls number (calls.Outputs word z)) w is h = none_some t is
 after_ends r e s t p y _ w is h =
     let k = when-is _ (with_process s p (Ended y)) t is in
     subst (After r e s (Label.End p y)) k.1 (process_ends r e s p w.x y (Label.End p y) w.is.alive w.is.free (λ i. refl) h)
@@ -242,14 +243,14 @@ completes_what-is : (p : Pid) (x : PlainProcess) (m : PlainMessage) (mask base s
     → (is_of_memory w ≡ false) × (is_piece w ≡ false) × Completes x c
 completes_what-is p x m mask base size (PlainWhat.User code channel body links) c e =
     (refl, refl, subst (Completes x) (cond_some _ (receiving.completes x base size code channel body links) c e).1 (completes-is x base size code channel body links))
-completes_what-is p x m mask base size _ c e = cc
+completes_what-is p x m mask base size _ c e = none_some c e
 
 completes_status-is : (p : Pid) (x : PlainProcess) (m : PlainMessage) (st : PlainStatus) (c : receiving.Completed) → receiving.completes_status p x m st ≡ Some c → UserCompletes x m c
 completes_status-is p x m (Waiting mask base size) c e = completes_what-is p x m mask base size m.what c e
-completes_status-is p x m _ c e = cc
+completes_status-is p x m _ c e = none_some c e
 
 completes_with-is : (p : Pid) (x : PlainProcess) (m : PlainMessage) (b : Bool) (c : receiving.Completed) → (if b then None else receiving.completes_status p x m x.status) ≡ Some c → UserCompletes x m c
-completes_with-is p x m true c e = cc
+completes_with-is p x m true c e = none_some c e
 completes_with-is p x m false c e = completes_status-is p x m x.status c e
 
 pub completing : (s : OneKernel) (p : Pid) (id : MsgId) (c : receiving.Completed) → step.completing s p id ≡ Some c → Completing s p id c
@@ -277,10 +278,10 @@ after_receives r e s t p id (receiving.Receives y) w is h =
       rests = went.rests;
       only = λ i a b was there. let f : Some a ≡ Some b = sym was ∙ stayed s id i b there in cc;
     })
-after_receives r e s t p id (receiving.Refuses reply y) w is h = cc
+after_receives r e s t p id (receiving.Refuses reply y) w is h = none_some t is
 
 pub after_refuses : (r e : MsgId → ℕ) (s t : OneKernel) (p : Pid) (id : MsgId) (reply : Reply) (c : receiving.Completed) → Completing s p id c → step.refuses s p reply c ≡ Some t → Sound r e s → After r e s (Label.Refuse p id reply) t
-after_refuses r e s t p id reply (receiving.Receives y) w is h = cc
+after_refuses r e s t p id reply (receiving.Receives y) w is h = none_some t is
 after_refuses r e s t p id reply (receiving.Refuses d y) w is h =
     let k = when-is _ (step.goes_on s p y) t is in
     subst (After r e s (Label.Refuse p id reply)) k.1 (process_goes r e s p w.x y (Label.Refuse p id reply) w.alive w.free w.is.0 (inr w.is.1) (λ i. refl) h)

@@ -1,6 +1,6 @@
 -- What moves, as the kernel with places has it: what it is of, and that it stays where that does.
 use Rattle.dm_mirror.proofs.Names.{◌≡◌, ◌∙◌, ℕ, List, [], refl, ap, sym, subst, Option, None, Some, option_map, Pid, MsgId, Asker, Departure, Placed, IsSuch, LeavesStand, Cargo, CanCome, CanBeCarried, ComesStand, Arrival, Nothing}
-use Rattle.dm_mirror.proofs.Names.{coming, comes_back, restarted, can_come, cargo_at, cargo_of, Resident, resident_at}
+use Rattle.dm_mirror.proofs.Names.{coming, comes_back, restarted, can_come, cargo_at, cargo_of, Resident, resident_at, none_some}
 use Rattle.dm_resident.specs.Residents as residents
 use Rattle.dm_mirror.proofs.Residents.{cargo_queue, moved_queue, of_system_queue}
 
@@ -18,7 +18,7 @@ pub record IsCargoOf (o : Option Resident) (asker : Option Asker) (c : Cargo) : 
   pub is : cargo_of resident asker ≡ c
 
 pub is_cargo_of : (o : Option Resident) (asker : Option Asker) (c : Cargo) → option_map (λ (r : Resident). cargo_of r asker) o ≡ Some c → IsCargoOf o asker c
-is_cargo_of None asker c e = cc
+is_cargo_of None asker c e = none_some c e
 is_cargo_of (Some r) asker c e = record { resident = r; there = refl; is = same_cargo (cargo_of r asker) c e }
 
 -- it can come, where what it is of can be carried

@@ -1,7 +1,7 @@
 -- What the laws rest on.
 use Rattle.dm_mirror.proofs.Names.{◌≡◌, ℕ, ◌<◌, true, List, length, ap, ◌∙◌, sym, subst, inl, nat_le, arith, option_map, Some, nat_tests, length-map, Pid, IsMachine, plain_link, Boot, IsValid, slots_of, Alive, plain_process, PlainProcess}
 use Rattle.dm_mirror.proofs.Names.{Step, Leads, Point, first_point, run_always, run_group, run_start, format_always, tables_always, Placed, MayStep, AreWhole, WorldState, EndIsSaid, EndMay, RunGoesOn, StepsStand, Steps, History, Stands}
-use Rattle.dm_mirror.proofs.Names.{StandsWith, RanGoesOn, alive-is, ◌==◌, [], ◌∷◌, ◌++◌, refl, GroupNeeds, group_needs, places_follow_by, PlacesFollow, slice_get, before_turn, before_lawful}
+use Rattle.dm_mirror.proofs.Names.{StandsWith, RanGoesOn, alive-is, [], ◌∷◌, ◌++◌, refl, GroupNeeds, group_needs, places_follow_by, PlacesFollow, slice_get, before_turn, before_lawful}
 use Rattle.dm_onekernel.specs.Step as kernel
 use Rattle.dm_mirror.proofs.Counts.{counts_few}
 use Rattle.dm_mirror.proofs.Leave.Asked.{asked_by_manager}

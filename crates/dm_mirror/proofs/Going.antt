@@ -2,7 +2,7 @@
 use Rattle.dm_mirror.proofs.Names.{◌≡◌, ℕ, List, [], ◌∷◌, ◌++◌, length, refl, ap, ◌∙◌, sym, subst, append_assoc, arith, Some, append-nil, All-nil, Boot, IsValid, start, replay, received_once, Step, Directive, Line, Todo, Next, all_of}
 use Rattle.dm_mirror.proofs.Names.{next_step, IsKept, IsRun, IsStep, Leads, Spelled, Point, first_point, labels, group_of, stands_once_always, group_replay, labels-append, replay-append, WorldState, IsTwo, joined, GoesOn, RunStands}
 use Rattle.dm_mirror.proofs.Names.{StepsStand, RunBegins, RunGoesOn, AreReadBack, gave, MayStep, zero, suc, Bool, if◌then◌else◌, option_map, Option, None, Pass, Two, begin_pass, below, in_pass, next_delivery, next_directive, next_pass}
-use Rattle.dm_mirror.proofs.Names.{next_turn, or, pairs_of, pass_begun, settles, nat_tests, Seen, at_rest}
+use Rattle.dm_mirror.proofs.Names.{next_turn, or, pairs_of, pass_begun, settles, nat_tests, Seen, at_rest, none_some}
 use Rattle.dm_world.specs.Next as world
 use Rattle.dm_mirror.proofs.May.{acts_start, acts_step}
 use Rattle.dm_mirror.proofs.Next.{NextFits, machines_stay, next_fits, next_is_said}
@@ -99,7 +99,7 @@ settles_behind : (quiet : Bool) (more : List Directive) (a b p q : Option Next) 
 settles_behind quiet more a b p q n e f is = grind (arith, nat_tests, or_behind)
 
 directive_behind : (machines : ℕ) (seen : Seen) (ds more : List Directive) (n : Next) → next_directive machines seen ds ≡ Some n → next_directive machines seen (ds ++ more) ≡ Some (next_behind more n)
-directive_behind machines seen [] more n e = cc
+directive_behind machines seen [] more n e = none_some n e
 directive_behind machines seen (Directive.One s ∷ ds) more n e = ap (option_map (next_behind more)) e
 directive_behind machines seen (Directive.Round ∷ ds) more n e = kept_behind more _ _ n (begin_behind machines seen (Pass.Round 0) ds more) e
 directive_behind machines seen (Directive.Spin zero ∷ ds) more n e = directive_behind machines seen ds more n e

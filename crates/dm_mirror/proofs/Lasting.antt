@@ -1,7 +1,7 @@
 -- Each server is on a machine, or on its way to one, wherever the rule leads.
 use Rattle.dm_mirror.proofs.Names.{◌≡◌, ◌≢◌, ◌⊎◌, ⊤, ℕ, ◌+◌, ◌==◌, ◌&&◌, not, Bool, true, false, List, [], ◌∷◌, refl, ap, ◌∙◌, sym, subst, inl, inr, arith, nat_tests, if◌then◌else◌, Option, None, Some, is_some, cases_Bool, false≢true, eqb_tells}
-use Rattle.dm_mirror.proofs.Names.{Pid, pid_of, pid_eq, pid_eq-is, pid_eq-same, MsgId, MessageKind, PlainMessage, PlainProcess, is_server, switchboard, manager, Boot, OneKernel, IsValid, Step, Line, Stage, Label, Why, View, Known, Unknown, Here, Frozen, Incoming}
-use Rattle.dm_mirror.proofs.Names.{Forward, About, Of, Told, Point, first_point, moved, Spelled, group_of, at_record, receiver_of, Phase, Moves, IsIn, InPhases, is_away, is_between, sort_of, Leads, Phased, Life}
+use Rattle.dm_mirror.proofs.Names.{Pid, pid_eq, pid_eq-is, MsgId, MessageKind, PlainProcess, is_server, Boot, OneKernel, IsValid, Step, Line, Stage, Label, View, Known, Unknown, Here, Frozen, Incoming}
+use Rattle.dm_mirror.proofs.Names.{About, Of, Told, Point, first_point, moved, Spelled, group_of, at_record, receiver_of, Phase, Moves, IsIn, InPhases, is_away, is_between, sort_of, Leads, Phased, Life}
 use Rattle.dm_rule.proofs.Phases.Net.{head_calm}
 use Rattle.dm_rule.proofs.Phases.Always.{bury_over}
 use Rattle.dm_onekernel.specs.Step as kernel

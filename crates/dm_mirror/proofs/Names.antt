@@ -31,6 +31,7 @@ pub use Rattle.dm_switchboard.proofs.Plain.{plain_request}
 pub use Rattle.dm_procman.proofs.Names.{tells_to_move}
 pub use Rattle.dm_procman.proofs.Plain.{plain_created, plain_moved, plain_no_room, plain_user}
 pub use Rattle.dm_procman.specs.Making.{address_at}
+pub use Rattle.dm_laws.proofs.Facts.{none_some}
 pub use Rattle.dm_laws.proofs.Runs.{reached, received_once}
 pub use Rattle.dm_laws.proofs.Sound.{not_counted}
 pub use Rattle.dm_laws.proofs.Steps.{after_ran}

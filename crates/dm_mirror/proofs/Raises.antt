@@ -1,6 +1,6 @@
 -- How much a step of the kernel without machines raises its counts, and which processes there are behind it: what processes say.
 use Rattle.dm_mirror.proofs.Names.{◌≡◌, ℕ, ◌+◌, ◌≤◌, Bool, true, refl, ap, ◌∙◌, subst, is_some, arith, length, if◌then◌else◌, Option, Some, Pid, pid_eq, MsgId, Label, Called, Reply, Why, bind, PlainProcess, nat_tests, Life, Alive}
-use Rattle.dm_mirror.proofs.Names.{Switchboard, Manager, OneKernel, with_process, without_message, pid_eq-is, bind-is, when-is, Nexts, nexts, Completing, completing, at_hand-is, Ended}
+use Rattle.dm_mirror.proofs.Names.{Switchboard, Manager, OneKernel, with_process, without_message, pid_eq-is, bind-is, when-is, Nexts, nexts, Completing, completing, at_hand-is, Ended, none_some}
 use Rattle.dm_rulelaws.proofs.Names.{with_sent}
 use Rattle.dm_onekernel.specs.Receiving as receiving
 use Rattle.dm_onekernel.specs.Step as step
@@ -89,7 +89,7 @@ replies_raise : (s t : OneKernel) (p : Pid) (n : ℕ) (c : Reply) (next : step.T
 replies_raise s t p n c (step.Calls number (Called.Replies reply y)) w is =
     let (z, sent, pending, counted) = w.counts in
     goes_raises s t p w.x y (when-is _ (step.goes_on s p y) t is).1 w.is.alive (counted.0 ∙ sent)
-replies_raise s t p n c _ w is = cc
+replies_raise s t p n c _ w is = none_some t is
 
 sends_raise : (s t : OneKernel) (p : Pid) (id : MsgId) (next : step.Trap) → Nexts s p next → step.sends s p id next ≡ Some t → Raises 1 s t
 sends_raise s t p id (step.Calls number (Called.Sends m y)) w is =
@@ -97,19 +97,19 @@ sends_raise s t p id (step.Calls number (Called.Sends m y)) w is =
     let k = when-is _ (with_sent (step.goes_on s p y) (Some m)) t is in
     let count = counted.count in
     subst (Raises 1 s) k.1 (set_raises s (with_sent (step.goes_on s p y) (Some m)) p w.x (Alive y) 1 w.is.alive (omega (arith, count, sent)) (λ q. refl) (λ h. refl) refl refl refl)
-sends_raise s t p id _ w is = cc
+sends_raise s t p id _ w is = none_some t is
 
 waits_raise : (s t : OneKernel) (p : Pid) (next : step.Trap) → Nexts s p next → step.waits s p next ≡ Some t → Raises 0 s t
 waits_raise s t p (step.Calls number (Called.Waits y)) w is =
     let (z, sent, pending, counted) = w.counts in
     goes_raises s t p w.x y (let e : step.goes_on s p y ≡ t = cc in e) w.is.alive (counted.0 ∙ sent)
-waits_raise s t p _ w is = cc
+waits_raise s t p _ w is = none_some t is
 
 outputs_raise : (s t : OneKernel) (p : Pid) (word : ℕ) (next : step.Trap) → Nexts s p next → step.outputs s p word next ≡ Some t → Raises 0 s t
 outputs_raise s t p word (step.Calls number (Called.Outputs put y)) w is =
     let (z, sent, pending, counted) = w.counts in
     goes_raises s t p w.x y (when-is _ (step.goes_on s p y) t is).1 w.is.alive (counted.0 ∙ sent)
-outputs_raise s t p word _ w is = cc
+outputs_raise s t p word _ w is = none_some t is
 
 pub end_raises_of : (s t : OneKernel) (p : Pid) (x : PlainProcess) (y : Why) → with_process s p (Ended y) ≡ t → s.processes p ≡ Some (Alive x) → Raises 0 s t
 end_raises_of s t p x y e is = subst (Raises 0 s) e (set_raises s (with_process s p (Ended y)) p x (Ended y) 0 is (omega arith) (λ q. refl) (λ h. refl) refl refl refl)
@@ -117,7 +117,7 @@ end_raises_of s t p x y e is = subst (Raises 0 s) e (set_raises s (with_process 
 ends_raise : (s t : OneKernel) (p : Pid) (y : Why) (next : step.Trap) → Nexts s p next → step.ends s p y next ≡ Some t → Raises 0 s t
 ends_raise s t p y (step.Calls number (Called.Ends because)) w is = let k = when-is _ (with_process s p (Ended y)) t is in end_raises_of s t p w.x y k.1 w.is.alive
 ends_raise s t p y (step.Faults fault) w is = let k = when-is _ (with_process s p (Ended y)) t is in end_raises_of s t p w.x y k.1 w.is.alive
-ends_raise s t p y _ w is = cc
+ends_raise s t p y _ w is = none_some t is
 
 pub call_raises : (s t : OneKernel) (p : Pid) (n : ℕ) (c : Reply) → step.step s (Label.Call p n c) ≡ Some t → Raises 0 s t
 call_raises s t p n c is = let (x, next, rest) = bind-is (step.next_trap s p) (step.replies s p n c) t is in replies_raise s t p n c x (nexts s p x next) rest
@@ -139,10 +139,10 @@ receives_raise : (s t : OneKernel) (p : Pid) (id : MsgId) (c : receiving.Complet
 receives_raise s t p id (receiving.Receives y) w is =
     let v = step.goes_on (without_message s id) p y in
     subst (Raises 0 s) (cc) (set_raises s v p w.x (Alive y) 0 w.alive (omega (arith, w.is.0)) (λ q. refl) (λ h. refl) refl refl refl)
-receives_raise s t p id (receiving.Refuses reply y) w is = cc
+receives_raise s t p id (receiving.Refuses reply y) w is = none_some t is
 
 refuses_raise : (s t : OneKernel) (p : Pid) (id : MsgId) (reply : Reply) (c : receiving.Completed) → Completing s p id c → step.refuses s p reply c ≡ Some t → Raises 0 s t
-refuses_raise s t p id reply (receiving.Receives y) w is = cc
+refuses_raise s t p id reply (receiving.Receives y) w is = none_some t is
 refuses_raise s t p id reply (receiving.Refuses d y) w is = let k = when-is _ (step.goes_on s p y) t is in goes_raises s t p w.x y k.1 w.alive w.is.0
 
 pub receive_raises : (s t : OneKernel) (p : Pid) (id : MsgId) → step.step s (Label.Receive p id) ≡ Some t → Raises 0 s t

@@ -1,5 +1,5 @@
 -- How much a step raises counts: what kernels and servers say.
-use Rattle.dm_mirror.proofs.Names.{◌≡◌, ◌≢◌, ◌⊎◌, inl, inr, ℕ, ◌+◌, ◌<◌, ◌≤◌, Bool, true, false, List, [], ◌∷◌, ◌++◌, refl, ap, ◌∙◌, sym, subst, is_some, arith, length, if◌then◌else◌, slice_get, Option, None, Some, nat_tests, Pid, pid_eq}
+use Rattle.dm_mirror.proofs.Names.{◌≡◌, ◌≢◌, ◌⊎◌, inl, inr, ℕ, ◌+◌, ◌<◌, ◌≤◌, Bool, true, false, List, [], ◌∷◌, ◌++◌, refl, ap, ◌∙◌, sym, subst, is_some, arith, length, if◌then◌else◌, slice_get, Option, None, Some, nat_tests, Pid, pid_eq, none_some}
 use Rattle.dm_mirror.proofs.Names.{pid_of, PlainLink, MsgId, PlainMessage, PlainWhat, BootImage, Label, first_number, switchboard, manager, bind, Life, Alive, Manager, OneKernel, answer_to, without_message, pid_eq-is, pid_eq-same, bind-is}
 use Rattle.dm_mirror.proofs.Names.{when-is, manager_takes_lem, take, drop, Why, PlainProcess, NamedLink, Switchboard, with_process, is_dropped, LandsSo, lands-is, board_takes_lem, if_some-is, ends_move-is, at_hand-is, Outcome, ◌==◌, Ended}
 use Rattle.dm_rulelaws.proofs.Names.{Pending, with_sent}
@@ -34,7 +34,7 @@ follows_raises : (s t : OneKernel) (id : MsgId) (m : PlainMessage) (w : PlainWha
 follows_raises s t id m (PlainWhat.Move machine) is =
     let u = with_note (without_message s id) m.to (record { id = id; asker = m.sender }) in
     subst (Raises 0 s) (cc) (bag_raises s u (λ p. refl) (λ h. refl) refl refl refl)
-follows_raises s t id m _ is = cc
+follows_raises s t id m _ is = none_some t is
 
 pub asked_raises : (s t : OneKernel) (id : MsgId) → step.step s (Label.Asked id) ≡ Some t → Raises 0 s t
 asked_raises s t id is =
@@ -52,7 +52,7 @@ no_room_raises : (s t : OneKernel) (id : MsgId) (m : PlainMessage) (w : PlainWha
 no_room_raises s t id m (PlainWhat.Create image links) is =
     let k = when-is _ (with_sent (without_message s id) (Some (answer_to m PlainWhat.NoRoom))) t is in
     subst (Raises 0 s) k.1 (bag_raises s (with_sent (without_message s id) (Some (answer_to m PlainWhat.NoRoom))) (λ p. refl) (λ h. refl) refl refl refl)
-no_room_raises s t id m _ is = cc
+no_room_raises s t id m _ is = none_some t is
 
 pub no_space_raises : (s t : OneKernel) (id : MsgId) (a b : ℕ) → step.step s (Label.NoSpace id a b) ≡ Some t → Raises 0 s t
 no_space_raises s t id a b is =
@@ -104,7 +104,7 @@ serves_raises s t id m x (PlainWhat.Write base bytes) is e =
 serves_raises s t id m x (PlainWhat.Block bytes) is e = lands_raises s t id m x is e
 serves_raises s t id m x PlainWhat.Written is e = lands_raises s t id m x is e
 serves_raises s t id m x PlainWhat.Gone is e = lands_raises s t id m x is e
-serves_raises s t id m x _ is e = cc
+serves_raises s t id m x _ is e = none_some t e
 
 -- the message and the process of a label
 pub record ServedSo (s t : OneKernel) (id : MsgId) : Type 0 where
@@ -161,7 +161,7 @@ paid_made g h None code links has e le = cc
 paid_made g h (Some l) code links has e le = omega (arith, e, le)
 
 paid_created : (g : Manager) (n : ℕ) (child : Pid) (o : Option Pending) (k : manage.ManagerTook) → ((r : Pending) → o ≡ Some r → is_some r.answer ≡ true) → (manage.takes_answer g n (g.children ++ child ∷ []) 0 (manage.control_link (length g.children + 1) ∷ [])) o ≡ Some k → Paid g k
-paid_created g n child None k has e = cc
+paid_created g n child None k has e = none_some k e
 paid_created g n child (Some r) k has e = grind (arith, nat_tests, paid_made, append-longer, g.children, g.pending, r.answer)
 
 paid_takes : (g : Manager) (machines images : ℕ) (m : PlainMessage) (w : PlainWhat) (k : manage.ManagerTook) → HasAnswer g m.id.n w → manage.manager_takes g machines images m w ≡ Some k → Paid g k
@@ -202,7 +202,7 @@ took_raises_of s t id m false true has is =
     let (k, took, last) = bind-is (manage.manager_takes s.manager s.machines (length s.images) m m.what) (λ v. Some (service.manager_took s id v)) t is in
     let f : service.manager_took s id k ≡ t = cc in
     subst (λ (o : Option manage.ManagerTook). Raises (manager_raise o) s t) (sym took) (subst (Raises (sent_raise k.message) s) f (manager_raises s id m k has took))
-took_raises_of s t id m false false has is = cc
+took_raises_of s t id m false false has is = none_some t is
 
 -- nobody is made
 stays_sent : (s u : OneKernel) (o : Option PlainMessage) → Stays s u → Stays s (with_sent u o)
@@ -219,7 +219,7 @@ took_stays s t id m false true is =
     let (k, took, last) = bind-is (manage.manager_takes s.manager s.machines (length s.images) m m.what) (λ v. Some (service.manager_took s id v)) t is in
     let f : service.manager_took s id k ≡ t = cc in
     subst (Stays s) f (stays_sent s (record (without_message s id) { manager = k.manager }) k.message (record { machines = refl; made = λ h. refl; lives = λ p. refl }))
-took_stays s t id m false false is = cc
+took_stays s t id m false false is = none_some t is
 
 pub record TookSo (s t : OneKernel) (id : MsgId) : Type 0 where
   pub m : PlainMessage
@@ -274,7 +274,7 @@ creates_raises : (s t : OneKernel) (id : MsgId) (m : PlainMessage) (child : Pid)
 creates_raises s t id m child (PlainWhat.Create image links) is =
     let (i, found, rest) = bind-is (slice_get s.images image) (service.creates_of s id m child links) t is in
     created_of s t id m child links i rest
-creates_raises s t id m child _ is = cc
+creates_raises s t id m child _ is = none_some t is
 
 pub created_makes : (s t : OneKernel) (id : MsgId) (child : Pid) → step.step s (Label.Created id child) ≡ Some t → Makes s t
 created_makes s t id child is =

@@ -1,8 +1,8 @@
 -- What a machine has of a process or a server, by what the lines say that it knows of it.
 use Rattle.dm_mirror.proofs.Names.{◌≡◌, ℕ, false, List, refl, subst, Option, None, Some, Pid, MsgId, Record, Process, Boot, Point, Known, Unknown, Here, Frozen, Incoming, Forward, is_server, Placed, KernelState, Arrival, Departure}
-use Rattle.dm_mirror.proofs.Names.{HereStands, LeavesStand, ComesStand, KnownStands, KernelStands, ◌==◌, ◌∙◌, Bool, true, ap, sym, incoming_of, is_expected, is_waited_from, Resident, Message, AreMessages, switchboard, manager}
+use Rattle.dm_mirror.proofs.Names.{HereStands, LeavesStand, ComesStand, KnownStands, KernelStands, ◌==◌, ◌∙◌, true, ap, sym, incoming_of, is_expected, is_waited_from, Resident, Message, AreMessages, manager}
 use Rattle.dm_kernel.specs.State as machine
-use Rattle.dm_mirror.proofs.Residents.{ProcessHere, board_here, manager_here, process_here}
+use Rattle.dm_mirror.proofs.Residents.{manager_here, process_here}
 
 abbrev pub Recorded : Placed → Pid → List MsgId → List MsgId → Known → Option machine.KernelKnown → Type 0
 Recorded l p queue held Unknown r = r ≡ None

@@ -1,7 +1,7 @@
 -- What is where a process or a server is, as the kernel with places has it: by who it is, and where it stays.
 use Rattle.dm_mirror.proofs.Names.{◌≡◌, ◌∙◌, ◌||◌, ℕ, Bool, true, false, List, [], ◌∷◌, ◌++◌, refl, ap, sym, subst, inl, inr, cases_Bool, if◌then◌else◌, Option, None, Some, option_map, Pid, pid_eq, pid_eq-is, MsgId, Message, Asker, Process, Board, Managing}
-use Rattle.dm_mirror.proofs.Names.{Resident, OneKernel, View, Addresses, Placed, Mirrors, HereStands, AreMessages, Cargo, cargo_of, is_server, switchboard, manager, or-left, or-right, resident_at, ◌+◌, ◌==◌, false≢true, nat_tests, arith, pid_of}
-use Rattle.dm_mirror.proofs.Names.{first_number, CanBeCarried, IsOfSystem, Boot, Point, Run, is_some, MoveNote, IsLawfulProcess, length, ◌/◌, ◌*◌, ◌≤◌, Life, PlainProcess, plain_process, pid_eq-same}
+use Rattle.dm_mirror.proofs.Names.{Resident, OneKernel, View, Addresses, Placed, Mirrors, HereStands, AreMessages, cargo_of, is_server, switchboard, manager, or-left, or-right, resident_at, ◌==◌, false≢true, nat_tests, arith}
+use Rattle.dm_mirror.proofs.Names.{CanBeCarried, IsOfSystem, Boot, Point, Run, is_some, MoveNote, IsLawfulProcess, length, ◌/◌, ◌*◌, ◌≤◌, Life, PlainProcess, plain_process, pid_eq-same, none_some}
 use Rattle.dm_onekernel.specs.Step as kernel
 use Rattle.dm_resident.specs.Residents as residents
 use Rattle.dm_kernel.specs.State as machine
@@ -44,7 +44,7 @@ process_some None x e = cc
 process_some (Some y) x e = cc
 
 process_as : (o : Option Process) (r : Resident) → option_map Resident.Process o ≡ Some r → (x : Process) × (r ≡ Resident.Process x) × (o ≡ Some x)
-process_as None r e = cc
+process_as None r e = none_some r e
 process_as (Some x) r e = let f : Resident.Process x ≡ r = cc in (x, sym f, refl)
 
 pub process_there : (l : Placed) (p : Pid) (r : Resident) → is_server p ≡ false → resident_at l p ≡ Some r → (x : Process) × (r ≡ Resident.Process x) × (l.processes p ≡ Some x)

@@ -1,6 +1,6 @@
 -- What the lines of a group say, row by row: whatever each row's lines keep, the group keeps.
-use Rattle.dm_mirror.proofs.Names.{◌≡◌, ⊤, ℕ, ◌+◌, ◌==◌, Bool, true, false, List, [], ◌∷◌, ◌++◌, map, length, refl, ap, ◌∙◌, sym, subst, inl, inr, if◌then◌else◌, Option, None, Some, bind, bind-is, Pid, pid_of, MsgId, MessageKind, plain_kind}
-use Rattle.dm_mirror.proofs.Names.{PlainMessage, is_server, manager, Boot, OneKernel, PlainProcess, Why, first_number, Step, Line, Stage, Label, Load, View, Known, Incoming, Of, Told, Point, label_of, kernel_after, moved, after_line, after, Spelled, spelled}
+use Rattle.dm_mirror.proofs.Names.{◌≡◌, ⊤, ℕ, ◌+◌, ◌==◌, Bool, true, false, List, [], ◌∷◌, ◌++◌, map, length, refl, subst, if◌then◌else◌, Option, None, Some, bind, bind-is, Pid, pid_of, MsgId, MessageKind, plain_kind}
+use Rattle.dm_mirror.proofs.Names.{PlainMessage, is_server, manager, Boot, OneKernel, PlainProcess, Why, first_number, Step, Line, Stage, Label, Load, View, Incoming, Of, Told, Point, label_of, kernel_after, moved, after_line, after, Spelled, spelled}
 use Rattle.dm_mirror.proofs.Names.{Outcome, answer_id, lines_of, puts, packet_line, goes_out, behind, outcome, group_of, to_kernel, sends_on, slice_get, Receiver}
 use Rattle.dm_onekernel.specs.Step as kernel
 use Rattle.dm_rule.specs.Parts.{Part, Says, Routes, Again, Owns, Transmits}
@@ -11,7 +11,7 @@ use Rattle.dm_rule.specs.Addresses.{Addresses, place_told}
 use Rattle.dm_rule.specs.Migrating.{answers_move, behind_count, calls_off, forwards_on, migrates}
 use Rattle.dm_rule.specs.Burying.{ends_with, preds_of}
 use Rattle.dm_rule.proofs.Groups.{IsNetLine, IsNet, arrives_net, resends_net}
-use Rattle.dm_rule.proofs.Hearing.{Heard, Leaves, TurnsBack, by_hears}
+use Rattle.dm_rule.proofs.Hearing.{Heard, TurnsBack, by_hears}
 use Rattle.dm_rule.proofs.Serving.{by_round, by_handles, by_forwards, ends_kept}
 use Rattle.dm_rule.proofs.Requests.{by_migrates, by_calls_off}
 

@@ -1,9 +1,9 @@
 -- Where the manager is here, there is its seat.
-use Rattle.dm_mirror.proofs.Names.{◌≡◌, ◌≢◌, ◌⊎◌, ⊤, ℕ, zero, suc, ◌+◌, ◌<◌, ◌≤◌, ◌==◌, ◌&&◌, Bool, true, false, List, [], ◌∷◌, ◌++◌, map, length, refl, ap, ◌∙◌, sym, subst, inl, inr, arith, nat_tests, if◌then◌else◌, Option, None, Some, is_some}
-use Rattle.dm_mirror.proofs.Names.{cases_Bool, false≢true, eqb-true, eqb_tells, bind, bind-is, Pid, pid_of, pid_eq, pid_eq-is, pid_eq-same, MsgId, MessageKind, plain_kind, PlainMessage, manager, is_server, Boot, OneKernel, IsValid, first_number, Step, Line, Stage}
-use Rattle.dm_mirror.proofs.Names.{Label, Load, View, Known, Unknown, Here, Frozen, Incoming, Forward, About, Of, Told, Point, first_point, label_of, kernel_after, moved, after_line, after, Spelled, spelled, lines_of, puts, packet_line, goes_out, behind, outcome, group_of}
-use Rattle.dm_mirror.proofs.Names.{at_record, at_machine, is_here, Phase, Rests, Moves, IsIn, InPhases, IsLeft, Asks, Comes, is_away, is_between, sort_of, times, standing, Inbox, Leads, Phased, migrates, calls_off, to_kernel, sends_on, slice_get}
-use Rattle.dm_mirror.proofs.Names.{KernelState, NodeState, WorldState, Placed, History, StandsWith, Record, Resident, KnownStands, KernelStands, Receiver, Run}
+use Rattle.dm_mirror.proofs.Names.{◌≡◌, ◌≢◌, ◌⊎◌, ⊤, ℕ, zero, suc, ◌+◌, ◌<◌, ◌≤◌, ◌==◌, ◌&&◌, Bool, true, false, List, [], ◌∷◌, length, refl, ap, ◌∙◌, sym, subst, inl, inr, arith, nat_tests, if◌then◌else◌, Option, None, Some, is_some}
+use Rattle.dm_mirror.proofs.Names.{cases_Bool, false≢true, eqb-true, eqb_tells, Pid, pid_of, pid_eq, pid_eq-is, MsgId, MessageKind, manager, is_server, Boot, OneKernel, IsValid, first_number, Step, Line, Stage}
+use Rattle.dm_mirror.proofs.Names.{Label, View, Known, Unknown, Here, Frozen, Incoming, Forward, About, Of, Told, Point, first_point, Spelled, group_of}
+use Rattle.dm_mirror.proofs.Names.{at_record, is_here, Phase, Rests, Moves, InPhases, IsLeft, Asks, Comes, is_away, is_between, sort_of, times, standing, Inbox, Leads, Phased}
+use Rattle.dm_mirror.proofs.Names.{NodeState, WorldState, Placed, History, StandsWith, Record, Resident, KnownStands, Run}
 use Rattle.dm_kernel.specs.State.{KernelKnown, manager_in}
 use Rattle.dm_world.specs.World.{seat_of}
 use Rattle.dm_line.specs.Todo.{or}
@@ -18,7 +18,7 @@ use Rattle.dm_rule.proofs.Phases.Always.{phased_group, phased_start}
 use Rattle.dm_message.specs.Sorts.{pulls_piece, brings_piece}
 use Rattle.dm_message.specs.Sorts as sort
 use Rattle.std.specs.Prelude.{filter, not}
-use Rattle.dm_mirror.proofs.Kernel.Sets.{eq_apart, eq_self, times_self}
+use Rattle.dm_mirror.proofs.Kernel.Sets.{eq_apart, times_self}
 use Rattle.dm_mirror.proofs.Numbering.{first_known}
 use Rattle.dm_mirror.proofs.Residents.{made_no_server}
 pub use Rattle.dm_rulelaws.proofs.Found.Groups.{here_is as is_here_is}

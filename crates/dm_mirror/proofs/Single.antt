@@ -1,6 +1,6 @@
 -- Elementary directives, one by one.
 use Rattle.dm_mirror.proofs.Names.{◌≡◌, ℕ, List, [], ◌∷◌, ◌++◌, length, refl, ap, ◌∙◌, sym, subst, arith, map-append, All-nil, Boot, IsValid, received_once, Step, Directive, Line, Todo, all_of, next_step, IsKept, IsRun, IsStep, Leads}
-use Rattle.dm_mirror.proofs.Names.{Point, first_point, stands_once_always, WorldState, MayStep, AreReadBack, gave, IsTwo, IsTodo, GoesOn, StepsStand, ones, Ran, RanBegins, RanGoesOn, RunIsRan, ◌+◌, ◌<◌, nat_tests, pid_of, first_number}
+use Rattle.dm_mirror.proofs.Names.{Point, first_point, stands_once_always, WorldState, MayStep, AreReadBack, gave, IsTwo, IsTodo, GoesOn, StepsStand, ones, Ran, RanBegins, RanGoesOn, RunIsRan, ◌+◌, ◌<◌, pid_of, first_number}
 use Rattle.dm_mirror.proofs.Names.{EndLine, joined_below, list_line, first_with, pair_home, Run, Placed, History, StandsWith, MadeStands, EndIsSaid, Pid, manager, switchboard, standing_of, seen_at}
 use Rattle.dm_rule.specs.Ends as rule
 use Rattle.dm_rule.specs.Spots as spots

@@ -1,7 +1,7 @@
 -- How large what is at a place is, by its bytes and by the rule.
-use Rattle.dm_mirror.proofs.Names.{◌≡◌, ℕ, ◌+◌, ◌*◌, ◌/◌, Bool, List, [], ◌∷◌, ◌++◌, length, map, refl, ap, ◌∙◌, sym, subst, arith, nat_tests, if◌then◌else◌, option_map, option_map_or, Option, Some, flat_map, length-append, flat_map-cons, Link, Shell}
+use Rattle.dm_mirror.proofs.Names.{◌≡◌, ℕ, ◌+◌, ◌*◌, Bool, List, [], ◌∷◌, length, map, refl, ap, ◌∙◌, sym, subst, arith, nat_tests, if◌then◌else◌, option_map, option_map_or, Option, Some, flat_map, length-append, flat_map-cons, Link, Shell}
 use Rattle.dm_mirror.proofs.Names.{plain_link, registers, shell_of, spell_slot, numbers_size, state_of, plain_status, links_size, status_size, shell_spelling, Pid, pid_eq, Message, MsgId, Resident, Board, Managing, Named, Addr, Pending, Placed}
-use Rattle.dm_mirror.proofs.Names.{plain_board, plain_manager, plain_process, plain_named, plain_pending, OneKernel, MirrorsKernel, HereStands, switchboard, manager, is_server, PlainProcess, Process, resident_at, Switchboard, Manager, Life, length-map}
+use Rattle.dm_mirror.proofs.Names.{plain_board, plain_manager, plain_process, plain_named, plain_pending, OneKernel, MirrorsKernel, HereStands, manager, resident_at, Switchboard, Manager, length-map}
 unfoldable use Rattle.dm_switchboard.specs.Packed.{board_spelling}
 use Rattle.dm_switchboard.specs.Packed.{spell_named}
 unfoldable use Rattle.dm_procman.specs.Packed.{manager_spelling}

@@ -1,7 +1,7 @@
 -- A turn with a kernel's own message at the inbox's front, a row a kind.
 use Rattle.dm_mirror.proofs.Names.{◌≡◌, ℕ, ◌<◌, false, List, [], ◌∷◌, refl, ap, ◌∙◌, sym, inl, inr, Option, None, Some, cases_Bool, Message, MsgId, PlainMessage, plain_message, Boot, IsValid, bind, FreezesWhole, IsLawfulState, KernelState}
 use Rattle.dm_mirror.proofs.Names.{Point, Known, Unknown, Here, is_fixed, OwnTold, Run, Placed, Mirrors, parts, MadeStands, AllOwnStand, KernelStands, AllRecords, TokensStand, true, subst, false≢true, Pid, What, kind_of, PlainWhat}
-use Rattle.dm_mirror.proofs.Names.{plain_what, with_what, is_between, tells_onward, Of, own_sort, about_of, told_of, ◌==◌, manager, pid_eq, switchboard, sort_of, Inbox, MessageKind, incoming_of, kernel_handles, left_true, is_due_piece}
+use Rattle.dm_mirror.proofs.Names.{plain_what, with_what, is_between, tells_onward, Of, own_sort, about_of, told_of, ◌==◌, sort_of, Inbox, MessageKind, incoming_of, kernel_handles, left_true, is_due_piece}
 use Rattle.dm_mirror.proofs.Names.{is_piece, hears_piece, brings_piece, is_stale, pulled, is_process}
 use Rattle.dm_mirror.proofs.Follow.Fronts.{fronted, Fronts}
 use Rattle.dm_mirror.proofs.Leave.Fronts.{heard, Hearing, stands_first}

@@ -1,6 +1,6 @@
 -- The world stands for a point: each machine has exactly what the printed lines say of it, with the plain values of the kernel
 -- without machines and the places of the addresses.
-use Rattle.std.specs.Prelude.{◌≡◌, ◌≢◌, ⊤, ℕ, ◌<◌, ◌≤◌, ◌==◌, Bool, true, false, if◌then◌else◌, is_some, List, [], length, map, take, drop, slice_get}
+use Rattle.std.specs.Prelude.{◌≡◌, ◌≢◌, ⊤, ℕ, ◌<◌, ◌≤◌, Bool, false, is_some, List, [], length, map, take, drop, slice_get}
 use Rattle.std.specs.List.{All}
 use Rattle.std.specs.declared.option.Option.{Option}
 use Rattle.std.specs.declared.option.Option.TheVariants.{None, Some}
@@ -19,7 +19,6 @@ use Rattle.dm_wire.specs.Sent as wire
 use Rattle.dm_migrate.specs.Cargo.{Cargo, cargo_of}
 use Rattle.dm_migrate.specs.Departure.{CanMove, Departure}
 use Rattle.dm_resident.specs.declared.Resident.{Resident}
-use Rattle.dm_resident.specs.declared.Resident.TheVariants as resident
 use Rattle.dm_resident.specs.Residents.{queue_of, with_queue}
 use Rattle.dm_migrate.specs.Arrival.{Arrival}
 use Rattle.dm_migrate.specs.Way.{IsOfSystem, coming}

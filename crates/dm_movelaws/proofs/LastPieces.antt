@@ -1,5 +1,5 @@
 -- The last chunk of a server, which has no blocks: step 4 handles no message, and step 5, which follows at once, the chunk's.
-use Rattle.dm_movelaws.proofs.Names.{◌≡◌, ℕ, true, false, List, ◌∷◌, [], refl, ap, ◌∙◌, if◌then◌else◌, Bool, Pid, MsgId, MessageKind, is_server, View, Line, Stage, Part, Says, to_kernel, view_after, handled_first, Spot, Inbox, ids_at, memory_off}
+use Rattle.dm_movelaws.proofs.Names.{◌≡◌, ℕ, true, false, List, ◌∷◌, [], refl, ap, ◌∙◌, if◌then◌else◌, Bool, Pid, MessageKind, is_server, View, Line, Stage, Part, Says, to_kernel, view_after, handled_first, Spot, Inbox, ids_at, memory_off}
 pub use Rattle.dm_rule.proofs.Moves.Rows.{server_front as state_front}
 
 -- what is said of it

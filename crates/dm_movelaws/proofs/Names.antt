@@ -15,6 +15,7 @@ pub use Rattle.dm_onekernel.specs.Pieces.{piece_of}
 pub use Rattle.dm_onekernel.specs.Service.{manager_took}
 pub use Rattle.dm_onekernel.specs.Start.{begun as started}
 pub use Rattle.dm_laws.proofs.Counted.{Sent}
+pub use Rattle.dm_laws.proofs.Facts.{none_some}
 pub use Rattle.dm_laws.proofs.Names.{bool_eq, receptions}
 pub use Rattle.dm_laws.proofs.Notes.{Notes-agree}
 pub use Rattle.dm_laws.proofs.Runs.{ended_stays, notes_always_agree, reached}

@@ -2,7 +2,7 @@
 use Rattle.dm_movelaws.proofs.Names.{◌≡◌, ℕ, zero, suc, ◌+◌, ◌==◌, ◌&&◌, Bool, true, false, not, List, [], ◌∷◌, ◌++◌, filter, refl, ap, ◌∙◌, sym, subst, arith, nat_tests, if◌then◌else◌, Option, None, Some, false≢true}
 use Rattle.dm_movelaws.proofs.Names.{Pid, pid_eq, pid_eq-is, pid_eq-same, Boot, switchboard, manager, Life, Alive, NamedLink, Pending, PlainProcess, PlainLink, EndLine, block_line, memory_lines, list_line, Addresses, Stood, Standing, slot_line}
 use Rattle.dm_movelaws.proofs.Names.{link_lines, state_lines, alive_lines, process_lines, each_process, name_lines, child_lines, pending_lines, queue_at, queue_lines, holding_lines, inbox_lines, stream_lines, server_lines, sent_lines, end_lines}
-use Rattle.dm_movelaws.proofs.Names.{place_line, is_moved, stands_here, Point, View, Known, Here, is_here, is_away, is_server, stood, Run, run_always, IsPlace, stands_by, Phase, Rests, knows, rests_here, InPhases, tells_server, server_sent}
+use Rattle.dm_movelaws.proofs.Names.{place_line, is_moved, stands_here, Point, View, Known, is_here, is_away, is_server, stood, Run, run_always, IsPlace, stands_by, Phase, Rests, knows, rests_here, InPhases, tells_server, server_sent}
 use Rattle.dm_movelaws.proofs.Names.{lines_of_place, IsServerSaid, ServersAreSaid, eq_is, ◌||◌}
 use Rattle.dm_movelaws.proofs.EndLines.{Mute, mute_both, mute_homes, mute_machines, mute_list, one_first, one_last}
 use Rattle.dm_movelaws.proofs.LifeLines.{Placed, placed, somewhere}

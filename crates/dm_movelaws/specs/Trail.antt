@@ -1,7 +1,7 @@
 -- Trails as the printed lines lay them: each place that is named for a process is on its trail, the trail ends where the process is, and
 -- from each place of it the forwarding addresses lead there; or, where the process has ended, to a machine without a record.
 use Rattle.std.specs.Prelude.{◌≡◌, ℕ, ◌+◌, ◌-◌, ◌<◌, ◌==◌, Bool, true, false, not, List, [], ◌∷◌, length}
-use Rattle.std.specs.declared.option.Option.TheVariants.{None, Some}
+use Rattle.std.specs.declared.option.Option.TheVariants.{Some}
 use Rattle.dm_link.specs.declared.Pid.{Pid}
 use Rattle.dm_link.specs.Names.{Place}
 use Rattle.dm_message.specs.declared.MsgId.{MsgId}

@@ -2,7 +2,7 @@
 use Rattle.dm_places.proofs.Names.{◌≡◌, ℕ, Bool, true, false, List, refl, ap, sym, subst, if◌then◌else◌, slice_get, Option, None, Some, false≢true, Pid, pid_eq, MsgId, Message, What, Process, begun_process, instruction, Format, BootImage}
 use Rattle.dm_places.proofs.Names.{Label, manager, slots_of, switchboard, bind, memory_of, slots_with, Landed, Landing, landing, after_serving, answer, gone_answer, serving_answer, Completion, bind-is, Placed, Acted, acted, acts}
 use Rattle.dm_places.proofs.Names.{after_landing, board_took, completed, creates, lands, manager_took, ran, running, serves, takes, with_acted, with_child, with_process, with_sent, without_message, Changes, StepsChangeLittle, changed}
-use Rattle.dm_places.proofs.Names.{is_named, receiver_in, taken, taken_out, answers, Asker, ends_move, moved_answer, without_note, arith}
+use Rattle.dm_places.proofs.Names.{is_named, receiver_in, taken, taken_out, answers, Asker, ends_move, moved_answer, without_note, arith, none_some}
 use Rattle.dm_switchboard.specs.Taking as board
 use Rattle.dm_procman.specs.Taking as manage
 
@@ -109,7 +109,7 @@ serves_leaves here l m id n x (What.Write base bytes) e = answers_leaves here l 
 serves_leaves here l m id n x (What.Block bytes) e = lands_leaves here l m id n x e
 serves_leaves here l m id n x What.Written e = lands_leaves here l m id n x e
 serves_leaves here l m id n x What.Gone e = lands_leaves here l m id n x e
-serves_leaves here l m id n x w e = cc
+serves_leaves here l m id n x w e = none_some m e
 
 creates_leaves : (here : ℕ) (f : Format) (images : List BootImage) (l m : Placed) (id : MsgId) (n : Message) (child : Pid) (w : What) → creates here f images (without_message l id) n child w ≡ Some m → Leaves l (Some child) (Some id) m
 creates_leaves here f images l m id n child (What.Create number links) e =
@@ -117,7 +117,7 @@ creates_leaves here f images l m id n child (What.Create number links) e =
     let (i, is, last) = bind-is (slice_get images number) (λ (i : BootImage). Some (with_sent (with_child (without_message l id) f child i links.items) (Some a))) m e in
     let g : with_sent (with_child (without_message l id) f child i links.items) (Some a) ≡ m = cc in
     subst (Leaves l (Some child) (Some id)) g (sets_and_takes l id child (Some (begun_process child (memory_of i) (slots_with (slots_of f) links.items))) (Some a))
-creates_leaves here f images l m id n child w e = cc
+creates_leaves here f images l m id n child w e = none_some m e
 
 -- the servers
 record Serves (l : Placed) (id : MsgId) (m : Placed) : Type 0 where
@@ -148,7 +148,7 @@ takes_if here l m id n false true e =
     subst (Serves l id) f
     (let u = record (without_message l id) { manager = t.manager } in
     record { processes = kept_processes u t.message; sent = t.message; bag = with_manager (without_message l id) t.manager t.message; notes = kept_notes u t.message; noted = kept_noted u t.message })
-takes_if here l m id n false false e = cc
+takes_if here l m id n false false e = none_some m e
 
 pub steps_change_little : StepsChangeLittle
 steps_change_little here f images l m (Label.Ran p k) e = leaves l (Label.Ran p k) m (ran_leaves l m p k e)

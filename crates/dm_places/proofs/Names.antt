@@ -20,6 +20,7 @@ pub use Rattle.dm_procman.proofs.Plain.{plain_bear, plain_numbered, plain_pendin
 pub use Rattle.dm_procman.specs.Managing.{answer_is_behind}
 pub use Rattle.dm_procman.specs.declared.pending.Pending.{Pending}
 pub use Rattle.dm_laws.proofs.Equal.{pid_eq-swap}
+pub use Rattle.dm_laws.proofs.Facts.{none_some}
 pub use Rattle.dm_laws.proofs.Names.{Switchboard}
 pub use Rattle.dm_laws.proofs.Servers.{note-is}
 pub use Rattle.dm_datamove.proofs.Landings.{ends_plainly, goes_on_plainly}

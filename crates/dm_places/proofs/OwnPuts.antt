@@ -2,7 +2,7 @@
 use Rattle.dm_places.proofs.Names.{◌≡◌, ℕ, zero, suc, ◌+◌, Bool, false, List, [], ◌∷◌, map, refl, ap, ◌∙◌, sym, subst, ◌⊎◌, inl, inr, arith, if◌then◌else◌, cond, slice_get, Option, None, Some, cases_Bool, Pid, Addr, Place, pid_eq}
 use Rattle.dm_places.proofs.Names.{nat_tests, place_of, MsgId, Message, Line, MessageKind, id_eq, plain_message, plain_child, child_named, Manager, OneKernel, pid_eq-swap, Told, View, own_id, view_after, Addresses, Child, Gets, Receiver}
 use Rattle.dm_places.proofs.Names.{Sender, child_number, first_gives, given, own_given, Point, moved, SameMessage, SameProcess, SameServers, two, two_off, two_process, two_servers, Placed, Mirrors, MirrorsMessage, enclosed, position_from}
-use Rattle.dm_places.proofs.Names.{MirrorsPoint, with_message, Sort, sort_of}
+use Rattle.dm_places.proofs.Names.{MirrorsPoint, with_message, Sort, sort_of, none_some}
 use Rattle.dm_places.proofs.Keeps.{stays_message, stays_process, stays_servers}
 use Rattle.dm_places.proofs.Following.Changed.{free_mirrors, kernel_again, places_message, this_message}
 use Rattle.dm_places.proofs.Lines.{mirrors_view}
@@ -66,7 +66,7 @@ absent_put_mirrors pt l from to id k q h none =
 
 -- the manager's child of a name, and its number
 child_has : (cs : List Addr) (k : ℕ) (p : Pid) (c : Addr) → child_named p cs ≡ Some c → (j : ℕ) × ((position_from (pid_eq p) k (map plain_child cs)) ≡ Some (k + j)) × (slice_get cs j ≡ Some c)
-child_has [] k p c e = cc
+child_has [] k p c e = none_some c e
 child_has (d ∷ ds) k p c e = elim (cases_Bool (pid_eq d.pid p)) [
   | inl same ↦
       let f : Some d ≡ Some c = sym (ap (λ (b : Bool). cond b (Some d) (child_named p ds)) same) ∙ e in

@@ -1,7 +1,7 @@
 -- The manager's requests with places: their numbers ascend, so that each has its own.
 use Rattle.dm_places.proofs.Names.{◌≡◌, ℕ, zero, suc, ◌+◌, ◌==◌, Bool, true, false, List, [], ◌∷◌, ◌++◌, length, ap, ◌∙◌, sym, ◌⊎◌, inl, inr, arith, if◌then◌else◌, map, option_map, nat_le, nat_lt, Some, cases_Bool, nat_tests, length-map}
 use Rattle.dm_places.proofs.Names.{Pid, Addr, place_of, Pending, at_home, plain_child, plain_pending, child_address, pending_request, without_pending, plain_pending_numbered, Addresses, gets, given, Child, unmoved, ascends, and-both}
-use Rattle.dm_places.proofs.Names.{get_last, numbered_from}
+use Rattle.dm_places.proofs.Names.{get_last, numbered_from, none_some}
 
 pub numbered_below : (ps : List Pending) (from to n : ℕ) (r : Pending) → ascends from (map plain_pending ps) to ≡ true → pending_request n ps ≡ Some r → (nat_le from n ≡ true) × (nat_lt n to ≡ true)
 numbered_below ps from to n r e f = numbered_from (map plain_pending ps) from to n (plain_pending r) e (plain_pending_numbered n ps ∙ ap (option_map plain_pending) f)
@@ -45,7 +45,7 @@ still_pending (p ∷ ps) from to n k r e f =
 -- a new child is the last
 pub child_last : (cs : List Addr) (child : Pid) (n : ℕ) (c : Addr) (a : Addresses) → ((k : ℕ) (w : Addr) → child_address cs k ≡ Some w → a (Child k) ≡ place_of w) → child_address (cs ++ at_home child ∷ []) n ≡ Some c
     → given a (gets (Child (length (map plain_child cs) + 1)) (unmoved child.home) ∷ []) (Child n) ≡ place_of c
-child_last cs child zero c a h e = cc
+child_last cs child zero c a h e = none_some c e
 child_last cs child (suc n) c a h e =
     let count : length (map plain_child cs) ≡ length cs = length-map cs plain_child in
     ap (λ (k : ℕ). if k + 1 == suc n then unmoved child.home else a (Child (suc n))) count

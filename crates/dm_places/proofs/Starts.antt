@@ -1,7 +1,7 @@
 -- Where a run begins, the boot file's processes with their links mirror the first point.
 use Rattle.dm_places.proofs.Names.{◌≡◌, ℕ, zero, suc, Bool, List, [], ◌∷◌, refl, ap, ◌∙◌, sym, inl, inr, if◌then◌else◌, map, option_map, slice_get, Option, None, Some, cases_Bool, Pid, Addr, pid_eq, place_of, plain_link, Process}
 use Rattle.dm_places.proofs.Names.{begun_process, BootImage, BootProcess, Boot, slots_of, Alive, Life, plain_process, memory_of, slots_with, child_at_home, plain_child, pid_eq-is, first_view, first_addresses, links_at, unmoved}
-use Rattle.dm_places.proofs.Names.{MirrorsProcess, started, started_at, StartMirrors, option_map_or, arith}
+use Rattle.dm_places.proofs.Names.{MirrorsProcess, started, started_at, StartMirrors, option_map_or, arith, none_some}
 use Rattle.dm_places.proofs.Labels.Creates.{begun_link, begun_plainly}
 use Rattle.dm_onekernel.specs.Start as one
 use Rattle.dm_onekernel.specs.Step as kernel
@@ -31,7 +31,7 @@ begun_kept : (b : Boot) (p : BootProcess) (q : Pid) (x : Process) (o : Option Bo
 begun_kept b p q x o h1 h2 h3 = search (arith, begun_link)
 
 started_kept : (b : Boot) (ps : List BootProcess) (q : Pid) (x : Process) → links_at b.processes q ≡ links_at ps q → started_at b ps q ≡ Some x → MirrorsProcess (first_view b) (first_addresses b) q x
-started_kept b [] q x at e = cc
+started_kept b [] q x at e = none_some x e
 started_kept b (p ∷ ps) q x at e = elim (cases_Bool (pid_eq p.pid q)) [
   | inl same ↦
       begun_kept b p q x (slice_get b.images p.image) (pid_eq-is p.pid q same) (at ∙ ap (λ (c : Bool). if c then p.links else links_at ps q) same)
@@ -41,7 +41,7 @@ started_kept b (p ∷ ps) q x at e = elim (cases_Bool (pid_eq p.pid q)) [
 ]
 
 child_kept_of : (ps : List BootProcess) (n : ℕ) (c : Addr) → slice_get (map child_at_home ps) n ≡ Some c → unmoved (option_map_or (λ (p : BootProcess). p.pid.home) (slice_get ps n) 0) ≡ place_of c
-child_kept_of [] n c e = cc
+child_kept_of [] n c e = none_some c e
 child_kept_of (p ∷ ps) zero c e = let f : child_at_home p ≡ c = cc in ap place_of f
 child_kept_of (p ∷ ps) (suc n) c e = child_kept_of ps n c e
 

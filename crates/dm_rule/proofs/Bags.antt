@@ -2,7 +2,7 @@
 use Rattle.dm_rule.proofs.Names.{◌≡◌, ℕ, ◌≤◌, Bool, true, false, zero, suc, refl, ap, ◌∙◌, sym, subst, nat_lt, arith, length, ◌⊎◌, inl, inr, if◌then◌else◌, slice_get, take, drop, Option, None, Some, cases_Bool, nat_tests, Pid, pid_eq}
 use Rattle.dm_rule.proofs.Names.{MsgId, id_eq, id_of, Called, PlainMessage, PlainWhat, Label, Why, switchboard, manager, bind, PlainProcess, Alive, OneKernel, with_process, with_sent, answer_id, answer_to, without_message, id_eq-is}
 use Rattle.dm_rule.proofs.Names.{id_eq-same, Entered, request_id, unentered, asks, Sound, not_server, counts_process, bind-is, when-is, at_hand-is, nexts, Nexts, LandsSo, lands-is, ServerSends, in_bag, Outcome, without_note}
-use Rattle.dm_rule.proofs.Names.{board_takes_lem, ends_move-is, manager_takes_lem, cond_some, Ended}
+use Rattle.dm_rule.proofs.Names.{board_takes_lem, ends_move-is, manager_takes_lem, cond_some, Ended, none_some}
 use Rattle.dm_onekernel.specs.Pieces as pieces
 use Rattle.dm_onekernel.specs.Receiving as receiving
 use Rattle.dm_onekernel.specs.Switchboard as board
@@ -94,7 +94,7 @@ bag_sends_next r e s t p id (step.Calls number (Called.Sends m y)) w is h =
     let name : id ≡ m.id = id_eq-is id m.id k.0 in
     let zero_ : e m.id ≡ 0 = ap e counted.id ∙ own_fresh r e s p w.x z.sent w.is.alive sent h in
     subst (λ v. BagStep e s v None (Some id)) k.1 (subst (λ v. BagStep e s (with_sent (step.goes_on s p y) (Some m)) None (Some v)) (sym name) (steps_in r e s (step.goes_on s p y) None m (λ i. refl) zero_ h.entered))
-bag_sends_next r e s t p id _ w is h = cc
+bag_sends_next r e s t p id _ w is h = none_some t is
 
 -- a process that sends
 pub bag_sends : (r e : MsgId → ℕ) (s t : OneKernel) (p : Pid) (id : MsgId) → step.step s (Label.Send p id) ≡ Some t → Sound r e s → BagStep e s t None (Some id)
@@ -112,15 +112,15 @@ bag_ran e s t p k is =
 
 replies_quiet : (e : MsgId → ℕ) (s t : OneKernel) (p : Pid) (n : ℕ) (c : _) (next : step.Trap) → step.replies s p n c next ≡ Some t → BagStep e s t None None
 replies_quiet e s t p n c (step.Calls number (Called.Replies reply y)) is = quiet_is e s t (step.goes_on s p y) (when-is _ (step.goes_on s p y) t is).1 (λ i. refl)
-replies_quiet e s t p n c _ is = cc
+replies_quiet e s t p n c _ is = none_some t is
 
 waits_quiet : (e : MsgId → ℕ) (s t : OneKernel) (p : Pid) (next : step.Trap) → step.waits s p next ≡ Some t → BagStep e s t None None
 waits_quiet e s t p (step.Calls number (Called.Waits y)) is = quiet_is e s t (step.goes_on s p y) (let f : step.goes_on s p y ≡ t = cc in f) (λ i. refl)
-waits_quiet e s t p _ is = cc
+waits_quiet e s t p _ is = none_some t is
 
 outputs_quiet : (e : MsgId → ℕ) (s t : OneKernel) (p : Pid) (w : ℕ) (next : step.Trap) → step.outputs s p w next ≡ Some t → BagStep e s t None None
 outputs_quiet e s t p w (step.Calls number (Called.Outputs word y)) is = quiet_is e s t (step.goes_on s p y) (when-is _ (step.goes_on s p y) t is).1 (λ i. refl)
-outputs_quiet e s t p w _ is = cc
+outputs_quiet e s t p w _ is = none_some t is
 
 pub bag_call : (e : MsgId → ℕ) (s t : OneKernel) (p : Pid) (n : ℕ) (c : _) → step.step s (Label.Call p n c) ≡ Some t → BagStep e s t None None
 bag_call e s t p n c is = let (x, next, rest) = bind-is (step.next_trap s p) (step.replies s p n c) t is in replies_quiet e s t p n c x rest
@@ -135,7 +135,7 @@ pub bag_end : (e : MsgId → ℕ) (s t : OneKernel) (p : Pid) (y : Why) → step
 bag_end e s t p y is = let (x, next, rest) = bind-is (step.next_trap s p) (step.ends s p y) t is in search (arith, quiet_is, when-is)
 
 refuses_quiet : (e : MsgId → ℕ) (s t : OneKernel) (p : Pid) (c : _) (done : receiving.Completed) → step.refuses s p c done ≡ Some t → BagStep e s t None None
-refuses_quiet e s t p c (receiving.Receives x) is = cc
+refuses_quiet e s t p c (receiving.Receives x) is = none_some t is
 refuses_quiet e s t p c (receiving.Refuses reply x) is = quiet_is e s t (step.goes_on s p x) (when-is _ (step.goes_on s p x) t is).1 (λ i. refl)
 
 pub bag_refuse : (e : MsgId → ℕ) (s t : OneKernel) (p : Pid) (id : MsgId) (c : _) → step.step s (Label.Refuse p id c) ≡ Some t → BagStep e s t None None
@@ -147,7 +147,7 @@ out_is e s t u id is same = subst (λ v. BagStep e s v (Some id) None) is (steps
 
 receives_out : (e : MsgId → ℕ) (s t : OneKernel) (p : Pid) (id : MsgId) (done : receiving.Completed) → step.receives s p id done ≡ Some t → BagStep e s t (Some id) None
 receives_out e s t p id (receiving.Receives x) is = out_is e s t (step.goes_on (without_message s id) p x) id (let f : step.goes_on (without_message s id) p x ≡ t = cc in f) (λ i. refl)
-receives_out e s t p id (receiving.Refuses reply x) is = cc
+receives_out e s t p id (receiving.Refuses reply x) is = none_some t is
 
 pub bag_receive : (e : MsgId → ℕ) (s t : OneKernel) (p : Pid) (id : MsgId) → step.step s (Label.Receive p id) ≡ Some t → BagStep e s t (Some id) None
 bag_receive e s t p id is = let (x, done, rest) = bind-is (step.completing s p id) (step.receives s p id) t is in receives_out e s t p id x rest
@@ -200,7 +200,7 @@ bag_answered r e s t id o is h =
 no_room_in : (r e : MsgId → ℕ) (s t : OneKernel) (id : MsgId) (m : PlainMessage) (w : PlainWhat) → m.what ≡ w → s.bag id ≡ Some m → service.has_no_room s id m w ≡ Some t → Sound r e s → BagStep e s t (Some id) (Some (answer_id id))
 no_room_in r e s t id m (PlainWhat.Create image links) w there is h =
     answers_in r e s t (without_message s id) id m PlainWhat.NoRoom (when-is _ (with_sent (without_message s id) (Some (answer_to m PlainWhat.NoRoom))) t is).1 (λ i. refl) there (ap asks w) h
-no_room_in r e s t id m _ w there is h = cc
+no_room_in r e s t id m _ w there is h = none_some t is
 
 pub bag_no_space : (r e : MsgId → ℕ) (s t : OneKernel) (id : MsgId) (a b : ℕ) → step.step s (Label.NoSpace id a b) ≡ Some t → Sound r e s → BagStep e s t (Some id) (Some (answer_id id))
 bag_no_space r e s t id a b is h = let (m, there, rest) = bind-is (s.bag id) (λ v. service.has_no_room s id v v.what) t is in no_room_in r e s t id m m.what refl there rest h
@@ -210,7 +210,7 @@ creates_in r e s t id m child (PlainWhat.Create image links) w there is h =
     let (i, found, rest) = bind-is (slice_get s.images image) (service.creates_of s id m child links) t is in
     let u = service.with_created (without_message s id) child i links in
     answers_in r e s t u id m (PlainWhat.Created child) (when-is _ (with_sent u (Some (answer_to m (PlainWhat.Created child)))) t rest).1 (λ j. refl) there (ap asks w) h
-creates_in r e s t id m child _ w there is h = cc
+creates_in r e s t id m child _ w there is h = none_some t is
 
 pub bag_created : (r e : MsgId → ℕ) (s t : OneKernel) (id : MsgId) (child : Pid) → step.step s (Label.Created id child) ≡ Some t → Sound r e s → BagStep e s t (Some id) (Some (answer_id id))
 bag_created r e s t id child is h = let (m, there, rest) = bind-is (s.bag id) (λ v. service.creates s id v child v.what) t is in creates_in r e s t id m child m.what refl there rest h
@@ -223,7 +223,7 @@ landed_in r e s t id m x (pieces.Done reply y) is alive lands h = out_is e s t (
 
 lands_in : (r e : MsgId → ℕ) (s t : OneKernel) (id : MsgId) (m : PlainMessage) (x : PlainProcess) (o : Option pieces.Landed) → pieces.lands m.to x m x.status ≡ o → bind o (λ c. Some (service.landed s id m c)) ≡ Some t → s.processes m.to ≡ Some (Alive x) → Sound r e s
     → BagStep e s t (Some id) (landed_id o)
-lands_in r e s t id m x None is last alive h = cc
+lands_in r e s t id m x None is last alive h = none_some t last
 lands_in r e s t id m x (Some c) is last alive h = landed_in r e s t id m x c (let f : service.landed s id m c ≡ t = cc in f) alive (lands-is m.to x m x.status c is) h
 
 served_in : (r e : MsgId → ℕ) (s t : OneKernel) (id : MsgId) (m : PlainMessage) (x : PlainProcess) (w : PlainWhat) → m.what ≡ w → s.bag id ≡ Some m → s.processes m.to ≡ Some (Alive x) → service.serves s id m x w ≡ Some t → Sound r e s
@@ -243,7 +243,7 @@ served_in r e s t id m x (PlainWhat.Write base bytes) w there alive is h =
 served_in r e s t id m x (PlainWhat.Block bytes) w there alive is h = lands_in r e s t id m x (pieces.lands m.to x m x.status) refl is alive h
 served_in r e s t id m x PlainWhat.Written w there alive is h = lands_in r e s t id m x (pieces.lands m.to x m x.status) refl is alive h
 served_in r e s t id m x PlainWhat.Gone w there alive is h = lands_in r e s t id m x (pieces.lands m.to x m x.status) refl is alive h
-served_in r e s t id m x _ w there alive is h = cc
+served_in r e s t id m x _ w there alive is h = none_some t is
 
 -- what a served message is, and what enters for it
 pub record ServedStep (e : MsgId → ℕ) (s t : OneKernel) (id : MsgId) : Type 0 where
@@ -275,11 +275,11 @@ manager_in r e s t id k (Some m) same sends is h =
     subst (λ v. BagStep e s v (Some id) (Some m.id)) is (steps_in r e s (record (without_message s id) { manager = k.manager }) (Some id) m (λ i. refl) zero_ h.entered)
 
 board_took : (r e : MsgId → ℕ) (s t : OneKernel) (id : MsgId) (m : PlainMessage) (o : Option board.BoardTook) → board.board_takes s.switchboard m m.what ≡ o → bind o (λ k. Some (service.switchboard_took s id k)) ≡ Some t → Sound r e s → BagStep e s t (Some id) (board_id o)
-board_took r e s t id m None is last h = cc
+board_took r e s t id m None is last h = none_some t last
 board_took r e s t id m (Some k) is last h = board_in r e s t id k k.answer refl (board_takes_lem s.switchboard m m.what k is).2 (let f : service.switchboard_took s id k ≡ t = cc in f) h
 
 manager_took : (r e : MsgId → ℕ) (s t : OneKernel) (id : MsgId) (m : PlainMessage) (o : Option manage.ManagerTook) → manage.manager_takes s.manager s.machines (length s.images) m m.what ≡ o → bind o (λ k. Some (service.manager_took s id k)) ≡ Some t → Sound r e s → BagStep e s t (Some id) (manager_id o)
-manager_took r e s t id m None is last h = cc
+manager_took r e s t id m None is last h = none_some t last
 manager_took r e s t id m (Some k) is last h = manager_in r e s t id k k.message refl (manager_takes_lem s.manager s.machines (length s.images) m m.what k is).2.sends (let f : service.manager_took s id k ≡ t = cc in f) h
 
 pub record TookStep (e : MsgId → ℕ) (s t : OneKernel) (id : MsgId) : Type 0 where

@@ -1,7 +1,7 @@
 -- A step of the kernel without machines: where it leads, row by row. Whatever holds where each row leads holds where the step leads.
 use Rattle.dm_rule.proofs.Names.{◌≡◌, ℕ, ◌+◌, ◌==◌, ◌&&◌, Bool, true, false, take, drop, refl, subst, length, if◌then◌else◌, slice_get, Option, None, Some, Pid, pid_of, pid_eq, MsgId, id_eq, Label, Reply, Why, reply_eq, why_eq}
-use Rattle.dm_rule.proofs.Names.{PlainMessage, PlainWhat, BootImage, first_number, switchboard, manager, bind, PlainProcess, PlainStatus, Ready, Alive, OneKernel, with_process, with_sent, without_message, answer_to, plain_kind, bind-is}
-use Rattle.dm_rule.proofs.Names.{when-is, at_hand-is, Nexts, nexts, is_dropped, why_ended-is, Runs, Completing, completing, pending_of, MoveNote, Outcome, with_note, arith, nat_tests, and_parts, Ended}
+use Rattle.dm_rule.proofs.Names.{PlainMessage, PlainWhat, BootImage, first_number, switchboard, manager, bind, PlainProcess, Alive, OneKernel, with_process, with_sent, without_message, answer_to, plain_kind, bind-is}
+use Rattle.dm_rule.proofs.Names.{when-is, at_hand-is, Nexts, nexts, is_dropped, why_ended-is, Runs, Completing, completing, MoveNote, Outcome, with_note, arith, and_parts, Ended, none_some}
 use Rattle.dm_onekernel.specs.Calls as calls
 use Rattle.dm_onekernel.specs.Manager as manage
 use Rattle.dm_onekernel.specs.Pieces as pieces
@@ -10,7 +10,6 @@ use Rattle.dm_onekernel.specs.Service as service
 use Rattle.dm_onekernel.specs.Step as kernel
 use Rattle.dm_onekernel.specs.Switchboard as board
 use Rattle.dm_rule.proofs.Serving.{is_kill}
-use Rattle.dm_laws.proofs.Steps.{if_ready-is}
 pub use Rattle.dm_laws.proofs.Steps.{runs as running_is}
 
 -- what a process does next
@@ -86,31 +85,31 @@ given P u t h e = let k : u ≡ t = cc in subst P k h
 
 replies_step : (P : OneKernel → Type 0) (s t : OneKernel) (p : Pid) (n : ℕ) (c : Reply) (next : kernel.Trap) → Changes P s (Label.Call p n c) → Next s p next → kernel.replies s p n c next ≡ Some t → P t
 replies_step P s t p n c (kernel.Calls k (calls.Replies d y)) h w e = subst P (when-is ((n == k) && reply_eq c d) (kernel.goes_on s p y) t e).1 (h.replies p n k c d y refl w)
-replies_step P s t p n c _ h w e = cc
+replies_step P s t p n c _ h w e = none_some t e
 
 sends_step : (P : OneKernel → Type 0) (s t : OneKernel) (p : Pid) (id : MsgId) (next : kernel.Trap) → Changes P s (Label.Send p id) → Next s p next → kernel.sends s p id next ≡ Some t → P t
 sends_step P s t p id (kernel.Calls k (calls.Sends m y)) h w e = let f = when-is (id_eq id m.id) (with_sent (kernel.goes_on s p y) (Some m)) t e in subst P f.1 (h.sends p id k m y refl f.0 w)
-sends_step P s t p id _ h w e = cc
+sends_step P s t p id _ h w e = none_some t e
 
 waits_step : (P : OneKernel → Type 0) (s t : OneKernel) (p : Pid) (next : kernel.Trap) → Changes P s (Label.Wait p) → Next s p next → kernel.waits s p next ≡ Some t → P t
 waits_step P s t p (kernel.Calls k (calls.Waits y)) h w e = given P (kernel.goes_on s p y) t (h.waits p k y refl w) e
-waits_step P s t p _ h w e = cc
+waits_step P s t p _ h w e = none_some t e
 
 outputs_step : (P : OneKernel → Type 0) (s t : OneKernel) (p : Pid) (word : ℕ) (next : kernel.Trap) → Changes P s (Label.Out p word) → Next s p next → kernel.outputs s p word next ≡ Some t → P t
 outputs_step P s t p word (kernel.Calls k (calls.Outputs v y)) h w e = subst P (when-is (word == v) (kernel.goes_on s p y) t e).1 (h.outputs p word k v y refl w)
-outputs_step P s t p word _ h w e = cc
+outputs_step P s t p word _ h w e = none_some t e
 
 ends_step : (P : OneKernel → Type 0) (s t : OneKernel) (p : Pid) (y : Why) (next : kernel.Trap) → Changes P s (Label.End p y) → Next s p next → kernel.ends s p y next ≡ Some t → P t
 ends_step P s t p y (kernel.Calls k (calls.Ends because)) h w e = subst P (when-is (why_eq y because) (with_process s p (Ended y)) t e).1 (h.ends p y (kernel.Calls k (calls.Ends because)) refl w)
 ends_step P s t p y (kernel.Faults fault) h w e = subst P (when-is (why_eq y (Why.Fault fault)) (with_process s p (Ended y)) t e).1 (h.ends p y (kernel.Faults fault) refl w)
-ends_step P s t p y _ h w e = cc
+ends_step P s t p y _ h w e = none_some t e
 
 receives_step : (P : OneKernel → Type 0) (s t : OneKernel) (p : Pid) (id : MsgId) (c : receiving.Completed) → Changes P s (Label.Receive p id) → kernel.completing s p id ≡ Some c → kernel.receives s p id c ≡ Some t → P t
 receives_step P s t p id (receiving.Receives y) h w e = given P (kernel.goes_on (without_message s id) p y) t (h.receives p id y refl (completing s p id (receiving.Receives y) w) w) e
-receives_step P s t p id (receiving.Refuses d y) h w e = cc
+receives_step P s t p id (receiving.Refuses d y) h w e = none_some t e
 
 refuses_step : (P : OneKernel → Type 0) (s t : OneKernel) (p : Pid) (id : MsgId) (r : Reply) (c : receiving.Completed) → Changes P s (Label.Refuse p id r) → kernel.completing s p id ≡ Some c → kernel.refuses s p r c ≡ Some t → P t
-refuses_step P s t p id r (receiving.Receives y) h w e = cc
+refuses_step P s t p id r (receiving.Receives y) h w e = none_some t e
 refuses_step P s t p id r (receiving.Refuses d y) h w e = subst P (when-is (reply_eq r d) (kernel.goes_on s p y) t e).1 (h.refuses p id r d y refl (completing s p id (receiving.Refuses d y) w) w)
 
 lands_step : (P : OneKernel → Type 0) (s t : OneKernel) (id : MsgId) (m : PlainMessage) (x : PlainProcess) (c : Option pieces.Landed) → Changes P s (Label.Served id) → Lives s id m x → Mild m → pieces.lands m.to x m x.status ≡ c
@@ -119,7 +118,7 @@ lands_step P s t id m x c h1 h2 h3 h4 h5 = search (arith, given)
 
 answered_step : (P : OneKernel → Type 0) (s t : OneKernel) (id : MsgId) (m : PlainMessage) (b : Bool) (r : pieces.Served) → P (service.answered s id m r) → bind (if b then Some r else None) (λ v. Some (service.answered s id m v)) ≡ Some t → P t
 answered_step P s t id m true r h e = given P (service.answered s id m r) t h e
-answered_step P s t id m false r h e = cc
+answered_step P s t id m false r h e = none_some t e
 
 serves_step : (P : OneKernel → Type 0) (s t : OneKernel) (id : MsgId) (m : PlainMessage) (x : PlainProcess) (w : PlainWhat) → m.what ≡ w → Changes P s (Label.Served id) → Lives s id m x → service.serves s id m x w ≡ Some t → P t
 serves_step P s t id m x w h1 h2 h3 h4 = search (arith, given, answered_step, lands_step)
@@ -139,7 +138,7 @@ lives s id m x there hand = let (free, alive) = at_hand-is s m.to x hand in reco
 
 follows_step : (P : OneKernel → Type 0) (s t : OneKernel) (id : MsgId) (m : PlainMessage) (x : PlainProcess) (w : PlainWhat) → m.what ≡ w → Changes P s (Label.Asked id) → Lives s id m x → service.follows_request s id m w ≡ Some t → P t
 follows_step P s t id m x (PlainWhat.Move machine) is h w e = given P (with_note (without_message s id) m.to (record { id = id; asker = m.sender })) t (h.asked id m x machine refl w is) e
-follows_step P s t id m x _ is h w e = cc
+follows_step P s t id m x _ is h w e = none_some t e
 
 move_ends_step : (P : OneKernel → Type 0) (s t : OneKernel) (id : MsgId) (p : Pid) (n : MoveNote) (o : Outcome) → Changes P s (Label.Answered id o) → s.noted id ≡ Some p → s.notes p ≡ Some n → service.ends_move s id p n o ≡ Some t → P t
 move_ends_step P s t id p n o h1 h2 h3 h4 = search (arith, given)

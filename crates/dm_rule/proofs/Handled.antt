@@ -2,7 +2,7 @@
 use Rattle.dm_rule.proofs.Names.{◌≡◌, ℕ, ◌+◌, ◌≤◌, ◌==◌, Bool, true, false, List, [], ◌∷◌, refl, ap, ◌∙◌, sym, subst, arith, length, if◌then◌else◌, slice_get, Option, None, Some, Pid, pid_eq, MsgId, Label, PlainMessage, PlainWhat, bind}
 use Rattle.dm_rule.proofs.Names.{OneKernel, Line, at_record, without_id, View, view_after, handled, receiver_of, Point, label_of, kernel_after, moved, Part, Says, Routes, Spelled, spelled, Spot, Queue, times, ids_at, id_eq-same, bind-is}
 use Rattle.dm_rule.proofs.Names.{Boot, BootImage, Why, first_number, switchboard, manager, PlainProcess, PlainStatus, Ready, Waiting, Moving, answer_id, pid_of, forwards_on, says, drop_parts, plain_kind, instruction, NothingElse, Outcome}
-use Rattle.dm_rule.proofs.Names.{◌++◌, map, MessageKind, preds_of, to_kernel, Target, answers_move, asked_to_move, leaves_for, move_target, option_map_or}
+use Rattle.dm_rule.proofs.Names.{◌++◌, map, MessageKind, preds_of, to_kernel, Target, answers_move, asked_to_move, leaves_for, move_target, option_map_or, none_some}
 use Rattle.dm_onekernel.specs.Step as kernel
 use Rattle.dm_rule.specs.View as view
 use Rattle.dm_rule.proofs.Lines.{Stands-queued, Stands-dequeued, without_counts}
@@ -86,7 +86,7 @@ awaited_if s mask i is id false e later = let k = later e in omega (arith, k)
 
 -- the message that a waiting process takes stands in its queue
 awaited_stands : (s : OneKernel) (mask : ℕ) (queue : List MsgId) (id : MsgId) → rule.first_awaited s mask queue ≡ Some id → 1 ≤ times id queue
-awaited_stands s mask [] id e = cc
+awaited_stands s mask [] id e = none_some id e
 awaited_stands s mask (i ∷ is) id e = awaited_if s mask i is id (rule.is_awaited mask (s.bag i)) e (λ k. awaited_stands s mask is id k)
 
 completes_row : (pt : Point) (p : Pid) (id : MsgId) (c : receiving.Completed) (w : Spelled) → State None pt → 1 ≤ times id (pt.view.queue pt.view.acting p) → spelled pt (rule.completion_parts p id c) ≡ Some w → State None w.point
@@ -101,7 +101,7 @@ completes_row pt p id (receiving.Refuses reply x) w h there e =
     one_line pt (Line.Label (Label.Refuse p id reply)) w e (λ s k. quiet_label pt (Label.Refuse p id reply) s None h k (bag_refuse h.e pt.kernel s p id reply k) (λ z. serving_off pt.view p z) (λ i. refl))
 
 receives_row : (pt : Point) (p : Pid) (x : PlainProcess) (mask : ℕ) (o : Option MsgId) (parts : List Part) (w : Spelled) → State None pt → rule.first_awaited pt.kernel mask (pt.view.queue pt.view.acting p) ≡ o → rule.reception_parts pt.kernel p x o ≡ Some parts → spelled pt parts ≡ Some w → State None w.point
-receives_row pt p x mask None parts w h first is e = cc
+receives_row pt p x mask None parts w h first is e = none_some parts is
 receives_row pt p x mask (Some id) parts w h first is e =
     let (m, there, rest) = bind-is (pt.kernel.bag id) (λ m. bind (receiving.completes_with p x m) (λ c. Some (rule.completion_parts p id c))) parts is in
     let (c, done, last) = bind-is (receiving.completes_with p x m) (λ c. Some (rule.completion_parts p id c)) parts rest in
@@ -184,7 +184,7 @@ served_routes pt i is m x j w h fits front there alive put e =
 
 lands_row : (pt : Point) (i : MsgId) (is : List MsgId) (m : PlainMessage) (x : PlainProcess) (o : Option pieces.Landed) (parts : List Part) (w : Spelled) (h : State None pt) → PairsFit pt.view → pt.view.inbox pt.view.acting ≡ i ∷ is → pt.kernel.bag i ≡ Some m → kernel.alive (pt.kernel.processes m.to) ≡ Some x
     → served_id i m x m.what ≡ landed_id o → rule.landing_parts i o ≡ Some parts → spelled pt parts ≡ Some w → State None w.point
-lands_row pt i is m x None parts w h fits front there alive put e k = cc
+lands_row pt i is m x None parts w h fits front there alive put e k = none_some parts e
 lands_row pt i is m x (Some (pieces.Next request y)) parts w h fits front there alive put e k =
     served_routes pt i is m x request.id w h fits front there alive put (ap (spelled pt) (let f : says (Label.Served i) ∷ Routes request.id ∷ [] ≡ parts = cc in f) ∙ k)
 lands_row pt i is m x (Some (pieces.Done reply y)) parts w h fits front there alive put e k =
@@ -226,16 +226,16 @@ here_row o pt m i is msg x (PlainWhat.Block a) parts w h fits front there alive 
 here_row o pt m i is msg x PlainWhat.Written parts w h fits front there alive k queue e n = lands_row pt i is msg x (pieces.lands msg.to x msg x.status) parts w h fits front there alive (ap (served_id i msg x) k) e n
 here_row o pt m i is msg x PlainWhat.Gone parts w h fits front there alive k queue e n = lands_row pt i is msg x (pieces.lands msg.to x msg x.status) parts w h fits front there alive (ap (served_id i msg x) k) e n
 here_row o pt m i is msg x (PlainWhat.Move a) parts w h fits front there alive k queue e n = let f : asked_to_move m i msg.to a ≡ parts = cc in asks_row pt m i is msg a w h fits front there k (ap (spelled pt) f ∙ n)
-here_row o pt m i is msg x _ parts w h fits front there alive k queue e n = cc
+here_row o pt m i is msg x _ parts w h fits front there alive k queue e n = none_some parts e
 
 ended_row : (pt : Point) (i : MsgId) (is : List MsgId) (k : PlainWhat) (parts : List Part) (w : Spelled) → State None pt → PairsFit pt.view → pt.view.inbox pt.view.acting ≡ i ∷ is → rule.ended_handles i k ≡ Some parts → spelled pt parts ≡ Some w → State None w.point
 ended_row pt i is (PlainWhat.Read a b) parts w h fits front e n = let f : says (Label.Gone i) ∷ Routes (answer_id i) ∷ [] ≡ parts = cc in gone_row pt i is w h fits front (ap (spelled pt) f ∙ n)
 ended_row pt i is (PlainWhat.Write a b) parts w h fits front e n = let f : says (Label.Gone i) ∷ Routes (answer_id i) ∷ [] ≡ parts = cc in gone_row pt i is w h fits front (ap (spelled pt) f ∙ n)
-ended_row pt i is (PlainWhat.Create a b) parts w h fits front e n = cc
-ended_row pt i is (PlainWhat.Created a) parts w h fits front e n = cc
-ended_row pt i is PlainWhat.NoRoom parts w h fits front e n = cc
+ended_row pt i is (PlainWhat.Create a b) parts w h fits front e n = none_some parts e
+ended_row pt i is (PlainWhat.Created a) parts w h fits front e n = none_some parts e
+ended_row pt i is PlainWhat.NoRoom parts w h fits front e n = none_some parts e
 ended_row pt i is (PlainWhat.Move a) parts w h fits front e n = let f : says (Label.Gone i) ∷ Routes (answer_id i) ∷ [] ≡ parts = cc in gone_row pt i is w h fits front (ap (spelled pt) f ∙ n)
-ended_row pt i is (PlainWhat.Moved a) parts w h fits front e n = cc
+ended_row pt i is (PlainWhat.Moved a) parts w h fits front e n = none_some parts e
 ended_row pt i is _ parts w h fits front e n = let f : says (Label.Dropped i) ∷ [] ≡ parts = cc in dropped_row pt i is w h front (ap (spelled pt) f ∙ n)
 
 -- a server's work
@@ -249,12 +249,12 @@ took_row pt i is m o w h fits front there put e =
 
 board_row : (pt : Point) (i : MsgId) (is : List MsgId) (m : PlainMessage) (t : Option board.BoardTook) (parts : List Part) (w : Spelled) (h : State None pt) → PairsFit pt.view → pt.view.inbox pt.view.acting ≡ i ∷ is → pt.kernel.bag i ≡ Some m → took_id pt.kernel m ≡ board_id t
     → rule.board_took i t ≡ Some parts → spelled pt parts ≡ Some w → State None w.point
-board_row pt i is m None parts w h fits front there put e n = cc
+board_row pt i is m None parts w h fits front there put e n = none_some parts e
 board_row pt i is m (Some t) parts w h fits front there put e n = let f : says (Label.Took i) ∷ rule.routes t.answer ≡ parts = cc in took_row pt i is m t.answer w h fits front there put (ap (spelled pt) f ∙ n)
 
 manager_row : (pt : Point) (i : MsgId) (is : List MsgId) (m : PlainMessage) (t : Option manage.ManagerTook) (parts : List Part) (w : Spelled) (h : State None pt) → PairsFit pt.view → pt.view.inbox pt.view.acting ≡ i ∷ is → pt.kernel.bag i ≡ Some m → took_id pt.kernel m ≡ manager_id t
     → rule.manager_parts i t ≡ Some parts → spelled pt parts ≡ Some w → State None w.point
-manager_row pt i is m None parts w h fits front there put e n = cc
+manager_row pt i is m None parts w h fits front there put e n = none_some parts e
 manager_row pt i is m (Some t) parts w h fits front there put e n = let f : says (Label.Took i) ∷ rule.routes t.message ≡ parts = cc in took_row pt i is m t.message w h fits front there put (ap (spelled pt) f ∙ n)
 
 -- the receiver is here: a server or another process
@@ -293,14 +293,14 @@ creates_row o pt m i is true room w h fits front e = created_row pt i is (pid_of
 creates_row o pt m i is false room w h fits front e = no_space_row pt i is room.slots room.blocks w h fits front e
 
 creates_of : (o pt : Point) (m : ℕ) (i : MsgId) (is : List MsgId) (room : rule.Room) (image : Option BootImage) (parts : List Part) (w : Spelled) (h : State None pt) → PairsFit pt.view → pt.view.inbox pt.view.acting ≡ i ∷ is → rule.creation_parts o m i room image ≡ Some parts → spelled pt parts ≡ Some w → State None w.point
-creates_of o pt m i is room None parts w h fits front e n = cc
+creates_of o pt m i is room None parts w h fits front e n = none_some parts e
 creates_of o pt m i is room (Some g) parts w h fits front e n =
     let f : (if rule.has_room room g.blocks then says (Label.Created i (pid_of m (first_number + o.kernel.made m))) else says (Label.NoSpace i room.slots room.blocks)) ∷ Routes (answer_id i) ∷ [] ≡ parts = cc in
     creates_row o pt m i is (rule.has_room room g.blocks) room w h fits front (ap (spelled pt) f ∙ n)
 
 kernel_row : (b : Boot) (o pt : Point) (m : ℕ) (i : MsgId) (is : List MsgId) (k : PlainWhat) (parts : List Part) (w : Spelled) (h : State None pt) → PairsFit pt.view → pt.view.inbox pt.view.acting ≡ i ∷ is → rule.kernel_handles b o m i k ≡ Some parts → spelled pt parts ≡ Some w → State None w.point
 kernel_row b o pt m i is (PlainWhat.Create image links) parts w h fits front e n = creates_of o pt m i is (rule.free_room b o m) (slice_get b.images image) parts w h fits front e n
-kernel_row b o pt m i is _ parts w h fits front e n = cc
+kernel_row b o pt m i is _ parts w h fits front e n = none_some parts e
 
 -- the receiver is a kernel or none
 handles_by : (b : Boot) (o pt : Point) (m : ℕ) (i : MsgId) (is : List MsgId) (msg : PlainMessage) (k : Bool) (parts : List Part) (w : Spelled) (h : State None pt) → PairsFit pt.view → pt.view.inbox pt.view.acting ≡ i ∷ is → pt.kernel.bag i ≡ Some msg → o.kernel ≡ pt.kernel

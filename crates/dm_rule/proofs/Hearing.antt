@@ -2,7 +2,7 @@
 use Rattle.dm_rule.proofs.Names.{◌≡◌, ℕ, ◌==◌, Bool, false, List, [], ◌∷◌, ◌++◌, ◌⊎◌, true, refl, subst, length, ⊤, if◌then◌else◌, Option, None, Some, Pid, pid_of, MsgId, MessageKind, Line, Stage, Boot}
 use Rattle.dm_rule.proofs.Names.{manager, Size, size_of, is_server, Told, About, Of, Known, Unknown, Here, Frozen, Incoming, Forward, Point, Part, Says, Again, Owns, Addresses, place_told, to_kernel, forwards_on, gives_piece, takes_last_chunk, sends_on, leaves}
 use Rattle.dm_rule.proofs.Names.{told_step, updates, told_here, told_ended, process_told, kernel_hears, hears, bind, bind-is, behind_count, MoveNote, Outcome, answers_move, tells_asker, leaves_for, sort_of, arith, calls_off}
-use Rattle.dm_rule.proofs.Names.{is_stale, map, buried, buries, preds_of, tells_end}
+use Rattle.dm_rule.proofs.Names.{is_stale, map, buried, buries, preds_of, tells_end, none_some}
 use Rattle.dm_rule.proofs.Requests.{by_test, by_calls_off}
 use Rattle.dm_rule.specs.Rule as rule
 
@@ -71,7 +71,7 @@ by_asker P l r (Some n) alone asked = asked n refl
 
 by_leaves : (P : List Part → Type 0) (o : Point) (m : ℕ) (id : MsgId) (p : Pid) (ids : List MsgId) (k : Known) (ps : List Part) → ids ≡ o.view.queue m p ++ o.view.held m p → ((to : ℕ) → Leaves o m MessageKind.AllTaken p ids to → P (left_parts id p ids to)) → o.view.known m p ≡ k → leaves id p ids k ≡ Some ps → P ps
 by_leaves P o m id p ids (Frozen to) ps lists h is e = given P (left_parts id p ids to) ps (h to (record { kind = refl; known = is; lists = lists })) e
-by_leaves P o m id p ids _ ps lists h is e = cc
+by_leaves P o m id p ids _ ps lists h is e = none_some ps e
 
 -- the last chunk, of a server or of a process
 by_last : (P : List Part → Type 0) (o : Point) (m : ℕ) (id : MsgId) (k : MessageKind) (p : Pid) → Tells P o m id k p → P (takes_last_chunk id p)
@@ -106,7 +106,7 @@ by_over P b o m id k p false ps ends late due e = by_due P b o m id k p (is_stal
 pub by_kernel : (P : List Part → Type 0) (b : Boot) (o : Point) (m : ℕ) (id : MsgId) (k : MessageKind) (a : About) (ps : List Part) → ((p : Pid) → a ≡ Of p → k ≡ MessageKind.Bury → P (buried o m id p)) → ((p : Pid) → a ≡ Of p → is_stale o m id k p ≡ true → P (Says (Line.Stale id) ∷ []))
     → ((p : Pid) (x : Size) → a ≡ Of p → size_of o.kernel p ≡ Some x → is_stale o m id k p ≡ false → Tells P o m id k p) → kernel_hears b o m id k a ≡ Some ps → P ps
 by_kernel P b o m id k (Of p) ps ends late due e = by_over P b o m id k p (tells_end (sort_of k)) ps (λ over. ends p refl (bury_is k over)) (late p refl) (λ x alive is. due p x refl alive is) e
-by_kernel P b o m id k _ ps ends late due e = cc
+by_kernel P b o m id k _ ps ends late due e = none_some ps e
 
 by_here : (P : List Part → Type 0) (o : Point) (m : ℕ) (id : MsgId) (t : Told) (k : MessageKind) (ps : List Part) → t.kind ≡ k → Heard P o m id t → AtHere o m t → told_here o m id t (sort_of k) ≡ Some ps → P ps
 by_here P o m id t k ps h1 h2 h3 h4 = search (arith, given, by_test)
@@ -127,7 +127,7 @@ by_receiver P b o m id t true ps kernel_ h e = by_kernel P b o m id t.kind t.abo
 by_receiver P b o m id t false ps kernel_ h e = by_process P o m id t (o.view.known m t.receiver) ps h (record { known = refl; kernel = kernel_ }) e
 
 pub by_hears : (P : List Part → Type 0) (b : Boot) (o : Point) (m : ℕ) (id : MsgId) (q : Option Told) (ps : List Part) → ((t : Told) → q ≡ Some t → Heard P o m id t) → hears b o m id q ≡ Some ps → P ps
-by_hears P b o m id None ps h e = cc
+by_hears P b o m id None ps h e = none_some ps e
 by_hears P b o m id (Some t) ps h e = by_receiver P b o m id t (t.receiver.num == 0) ps refl (h t refl) e
 
 -- the lines that a kernel's own message brings about, or calling off

@@ -14,7 +14,7 @@ pub mod Lines
 pub mod Parts
 pub mod Groups
 pub mod Turns
-use Rattle.dm_rule.proofs.Names.{◌≡◌, ℕ, true, refl, ap, sym, subst, slice_get, Option, None, Some, Pid, Place, PlainLink, link_at, MsgId, PlainMessage, PlainProcess, NamedLink, Pending, MoveNote, OneKernel, links_in, to_of, sender_of}
+use Rattle.dm_rule.proofs.Names.{◌≡◌, ℕ, true, refl, ap, sym, subst, slice_get, Option, None, Some, Pid, Place, PlainLink, link_at, MsgId, PlainMessage, PlainProcess, NamedLink, Pending, MoveNote, OneKernel, links_in, to_of, sender_of, none_some}
 use Rattle.dm_rule.proofs.Names.{enclosed_of, names, ascends, Addresses, Holder, Slot, Owner, Receiver, Sender, Enclosed, Child, Name, Answer, AskedBy, ToBoard, unmoved, switchboard, link_target, owner_in, asker_in, option_and_then, option_map, arith}
 use Rattle.dm_onekernel.specs.Manager as manage
 use Rattle.dm_onekernel.specs.Step as kernel
@@ -64,39 +64,39 @@ at_home_of : (P : Pid → Place → Type 0) (p q : Pid) (pl : Place) → Some p 
 at_home_of P p q pl e f = let k : p ≡ q = cc in pid_as P k f
 
 link_home : (P : Pid → Place → Type 0) (pl : Place) (q : Pid) (o : Option PlainLink) → ((l : PlainLink) → o ≡ Some l → P l.to pl) → link_target o ≡ Some q → P q pl
-link_home P pl q None h e = cc
+link_home P pl q None h e = none_some q e
 link_home P pl q (Some l) h e = at_home_of P l.to q pl e (h l refl)
 
 slot_home : (P : Pid → Place → Type 0) (a : Addresses) (p : Pid) (k : ℕ) (q : Pid) (o : Option PlainProcess) → ((x : PlainProcess) → o ≡ Some x → HomeProcess P a p x) → link_target (option_and_then (λ x. link_at x.links k) o) ≡ Some q → P q (a (Slot p k))
-slot_home P a p k q None h e = cc
+slot_home P a p k q None h e = none_some q e
 slot_home P a p k q (Some x) h e = link_home P (a (Slot p k)) q (link_at x.links k) (λ l f. (h x refl).slots k l f) e
 
 owner_home : (P : Pid → Place → Type 0) (a : Addresses) (p q : Pid) (o : Option PlainProcess) → ((x : PlainProcess) → o ≡ Some x → HomeProcess P a p x) → (option_and_then (λ (x : PlainProcess). owner_in x.status) o) ≡ Some q → P q (a (Owner p))
-owner_home P a p q None h e = cc
+owner_home P a p q None h e = none_some q e
 owner_home P a p q (Some x) h e = (h x refl).owner q e
 
 message_home : (P : Pid → Place → Type 0) (a : Addresses) (i : MsgId) (q : Pid) (o : Option PlainMessage) → ((m : PlainMessage) → o ≡ Some m → HomeMessage P a i m) → to_of o ≡ Some q → P q (a (Receiver i))
-message_home P a i q None h e = cc
+message_home P a i q None h e = none_some q e
 message_home P a i q (Some m) h e = at_home_of P m.to q (a (Receiver i)) e (h m refl).receiver
 
 sender_home : (P : Pid → Place → Type 0) (a : Addresses) (i : MsgId) (q : Pid) (o : Option PlainMessage) → ((m : PlainMessage) → o ≡ Some m → HomeMessage P a i m) → sender_of o ≡ Some q → P q (a (Sender i))
-sender_home P a i q None h e = cc
+sender_home P a i q None h e = none_some q e
 sender_home P a i q (Some m) h e = at_home_of P m.sender q (a (Sender i)) e (h m refl).sender
 
 enclosed_home : (P : Pid → Place → Type 0) (a : Addresses) (i : MsgId) (k : ℕ) (q : Pid) (o : Option PlainMessage) → ((m : PlainMessage) → o ≡ Some m → HomeMessage P a i m) → link_target (enclosed_of o k) ≡ Some q → P q (a (Enclosed i k))
-enclosed_home P a i k q None h e = cc
+enclosed_home P a i k q None h e = none_some q e
 enclosed_home P a i k q (Some m) h e = link_home P (a (Enclosed i k)) q (slice_get (links_in m.what) k) (λ l f. (h m refl).enclosed k l f) e
 
 name_home : (P : Pid → Place → Type 0) (a : Addresses) (n : ℕ) (q : Pid) (o : Option NamedLink) → ((k : NamedLink) → o ≡ Some k → P k.link.to (a (Name n))) → link_target (option_map (λ k. k.link) o) ≡ Some q → P q (a (Name n))
-name_home P a n q None h e = cc
+name_home P a n q None h e = none_some q e
 name_home P a n q (Some k) h e = at_home_of P k.link.to q (a (Name n)) e (h k refl)
 
 answer_home : (P : Pid → Place → Type 0) (a : Addresses) (n : ℕ) (q : Pid) (o : Option Pending) → ((r : Pending) (l : PlainLink) → o ≡ Some r → r.answer ≡ Some l → P l.to (a (Answer n))) → link_target (option_and_then (λ r. r.answer) o) ≡ Some q → P q (a (Answer n))
-answer_home P a n q None h e = cc
+answer_home P a n q None h e = none_some q e
 answer_home P a n q (Some r) h e = link_home P (a (Answer n)) q r.answer (λ l f. h r l refl f) e
 
 asker_home : (P : Pid → Place → Type 0) (a : Addresses) (p q : Pid) (o : Option MoveNote) → ((n : MoveNote) → o ≡ Some n → P n.asker (a (AskedBy p))) → asker_in o ≡ Some q → P q (a (AskedBy p))
-asker_home P a p q None h e = cc
+asker_home P a p q None h e = none_some q e
 asker_home P a p q (Some n) h e = at_home_of P n.asker q (a (AskedBy p)) e (h n refl)
 
 pub homes_are : (P : Pid → Place → Type 0) (s : OneKernel) (a : Addresses) → AtHome P s a → HomesAre P s a

@@ -1,7 +1,7 @@
 -- What each kind of line does to the lists that messages stand in.
 use Rattle.dm_rule.proofs.Names.{◌≡◌, ◌≢◌, ℕ, ◌+◌, ◌≤◌, ◌==◌, ◌&&◌, Bool, true, false, zero, suc, not, filter, List, [], ◌∷◌, ◌++◌, refl, ap, ◌∙◌, sym, subst, arith, length, inl, inr, if◌then◌else◌, drop, slice_get, Option, None, Some}
 use Rattle.dm_rule.proofs.Names.{cases_Bool, false≢true, drop-append-le, length-append, drop-length, nat_tests, Pid, pid_eq, MsgId, MessageKind, id_eq, at_machine, at_pair, at_id, at_record, without_id, without_front, View, Pair, Told}
-use Rattle.dm_rule.proofs.Names.{handled, receiver_of, Spot, Queue, Inbox, Untaken, times, untaken, ids_at, standing, StandsAsBag, pid_eq-is, pid_eq-same, id_eq-is, id_eq-same, and_parts, eqb-true, false_from_ne_true}
+use Rattle.dm_rule.proofs.Names.{handled, receiver_of, Spot, Queue, Inbox, Untaken, times, untaken, ids_at, standing, StandsAsBag, pid_eq-is, pid_eq-same, id_eq-is, id_eq-same, and_parts, eqb-true, false_from_ne_true, none_some}
 use Rattle.dm_rule.specs.View as view
 use Rattle.dm_rule.proofs.Standing.{times-append}
 use Rattle.dm_rule.proofs.Once.{Kept, SameBut, one_of, once_stays, once_comes, once_goes, once_moves}
@@ -161,7 +161,7 @@ Stands-dequeued bag v w i p rest counts same told h =
 
 -- what stands at a place of a list, and what is behind it
 pub at_place : (xs : List MsgId) (k : ℕ) (x : MsgId) → slice_get xs k ≡ Some x → drop k xs ≡ x ∷ drop (suc k) xs
-at_place [] k x e = cc
+at_place [] k x e = none_some x e
 at_place (y ∷ ys) zero x e = let f : y ≡ x = cc in ap (λ v. v ∷ ys) f
 at_place (y ∷ ys) (suc k) x e = at_place ys k x e
 

@@ -1,6 +1,5 @@
 -- Nothing is known of a process that was never made.
-use Rattle.dm_rule.proofs.Names.{◌≡◌, ℕ, ◌≤◌, ap, ◌∙◌, sym, Option, None, Some, Pid, PlainProcess, Life, OneKernel, at_record, View, Known, Unknown, Here, pid_eq-is, LifeGrows, arith, and_parts}
-use Rattle.dm_onekernel.specs.Step as kernel
+use Rattle.dm_rule.proofs.Names.{◌≡◌, ℕ, ◌≤◌, ap, ◌∙◌, sym, Option, None, Pid, Life, OneKernel, at_record, View, Known, Unknown, Here, pid_eq-is, LifeGrows, arith, and_parts}
 
 -- processes are numbered from 3; the servers are none
 pub record Lives (s : OneKernel) (v : View) : Type 0 where

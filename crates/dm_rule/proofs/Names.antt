@@ -33,6 +33,7 @@ pub use Rattle.dm_onekernel.specs.declared.label.Why.TheVariants.{Exit}
 pub use Rattle.dm_laws.proofs.Counted.{pending_of}
 pub use Rattle.dm_laws.proofs.Entered.{Entered, Made, asks, counts, is_counted, request_id, unentered}
 pub use Rattle.dm_laws.proofs.Equal.{id_eq-is, id_eq-same, id_eq-swap, pid_eq-is, pid_eq-same}
+pub use Rattle.dm_laws.proofs.Facts.{none_some}
 pub use Rattle.dm_laws.proofs.Grown.{LifeGrows}
 pub use Rattle.dm_laws.proofs.Movers.{sent_at, sent_off, stayed}
 pub use Rattle.dm_laws.proofs.Names.{Alive, Boot, BootImage, BootProcess, CallNumber, Called, Direction, Ended, Ends, IsValid, Label, Life, List, Manager, MoveNote, Moving, MsgId, None, OneKernel, Option, Outcome, Outputs, Pending}

@@ -2,7 +2,7 @@
 use Rattle.dm_rule.proofs.Names.{◌≡◌, ℕ, ◌+◌, ◌==◌, ◌||◌, Bool, true, false, List, [], ◌∷◌, refl, length, if◌then◌else◌, Option, None, Some, Pid, pid_of, pid_eq, MsgId, MessageKind, Label, Reply, Why, plain_kind, PlainMessage, PlainWhat}
 use Rattle.dm_rule.proofs.Names.{instruction, Boot, first_number, switchboard, manager, PlainProcess, PlainStatus, Ready, Waiting, Moving, answer_id, with_machine, Line, Known, Unknown, Here, Frozen, Incoming, Forward, Addresses, Sender}
 use Rattle.dm_rule.proofs.Names.{Point, Part, Says, Routes, Again, Owns, forwards_on, says, drop_parts, called, stops, executes, ran, first_awaited, serves_status, goes_round, kernel_handles, routes, board_took, manager_parts, here_handles}
-use Rattle.dm_rule.proofs.Names.{ended_handles, process_handles, bind-is, Outcome, answers_move, leaves_for, arith, nat_tests, machine_of, or_left, or_right, bind, ◌++◌, map, to_kernel, buries, ends_with, preds_of}
+use Rattle.dm_rule.proofs.Names.{ended_handles, process_handles, bind-is, Outcome, answers_move, leaves_for, arith, nat_tests, machine_of, or_left, or_right, bind, ◌++◌, map, to_kernel, buries, ends_with, preds_of, none_some}
 use Rattle.dm_onekernel.specs.Calls as calls
 use Rattle.dm_onekernel.specs.Pieces as pieces
 use Rattle.dm_onekernel.specs.Switchboard as board
@@ -34,7 +34,7 @@ by_status P quantum o m p x Ready ps h e =
     let next = kernel.next_row p (with_machine x r.machine) (instruction r.machine.regs r.machine.bytes) in
     given P (executes quantum p (ends_with o m p) x r) ps (h.runs r.count (if r.count == quantum then [] else stops p (ends_with o m p) next) (λ Q. by_stops Q p (ends_with o m p) (r.count == quantum) next)) e
 by_status P quantum o m p x (Waiting mask base size) ps h e = search (arith, bind-is, given)
-by_status P quantum o m p x (Moving dir owner base own left pending) ps h e = cc
+by_status P quantum o m p x (Moving dir owner base own left pending) ps h e = none_some ps e
 
 pub by_round : (P : List Part → Type 0) (b : Boot) (o : Point) (m : ℕ) (q : Option Pid) (ps : List Part) → P (Says (Line.Idle m) ∷ []) → ((p : Pid) (x : PlainProcess) → q ≡ Some p → kernel.alive (o.kernel.processes p) ≡ Some x → Serves P o m p)
     → goes_round b o m q ≡ Some ps → P ps
@@ -77,14 +77,14 @@ pub record Handles (P : List Part → Type 0) (o : Point) (m : ℕ) (id : MsgId)
 
 by_asked : (P : List Part → Type 0) (b : Boot) (o : Point) (m : ℕ) (id : MsgId) (msg : PlainMessage) (w : PlainWhat) (ps : List Part) → (msg.to.num == 0) ≡ true → Handles P o m id msg → kernel_handles b o m id w ≡ Some ps → P ps
 by_asked P b o m id msg (PlainWhat.Create image links) ps fixed h e = search (arith, given)
-by_asked P b o m id msg _ ps fixed h e = cc
+by_asked P b o m id msg _ ps fixed h e = none_some ps e
 
 by_board : (P : List Part → Type 0) (id : MsgId) (t : Option board.BoardTook) (ps : List Part) → ((sent : Option PlainMessage) → P (says (Label.Took id) ∷ routes sent)) → board_took id t ≡ Some ps → P ps
-by_board P id None ps h e = cc
+by_board P id None ps h e = none_some ps e
 by_board P id (Some t) ps h e = given P (says (Label.Took id) ∷ routes t.answer) ps (h t.answer) e
 
 by_manager : (P : List Part → Type 0) (id : MsgId) (t : Option manage.ManagerTook) (ps : List Part) → ((sent : Option PlainMessage) → P (says (Label.Took id) ∷ routes sent)) → manager_parts id t ≡ Some ps → P ps
-by_manager P id None ps h e = cc
+by_manager P id None ps h e = none_some ps e
 by_manager P id (Some t) ps h e = given P (says (Label.Took id) ∷ routes t.message) ps (h t.message) e
 
 by_lands : (P : List Part → Type 0) (id : MsgId) (l : Option pieces.Landed) (ps : List Part) → P (says (Label.Served id) ∷ []) → ((i : MsgId) → P (says (Label.Served id) ∷ Routes i ∷ [])) → rule.landing_parts id l ≡ Some ps → P ps

@@ -2,7 +2,7 @@
 use Rattle.dm_rule.proofs.Names.{◌≡◌, ℕ, ◌+◌, ◌≤◌, ◌==◌, ◌&&◌, Bool, true, false, List, [], ◌∷◌, length, is_some, refl, ap, ◌∙◌, sym, subst, inl, inr, arith, ⊤, if◌then◌else◌, Option, None, Some, cases_Bool, false≢true, Pid, MsgId}
 use Rattle.dm_rule.proofs.Names.{MessageKind, id_eq, plain_kind, Load, PlainMessage, PlainWhat, Boot, Label, IsValid, OneKernel, bind, Step, Line, View, Pair, Told, view_after, is_kernels, own_id, Receiver, Point, label_of, kernel_after}
 use Rattle.dm_rule.proofs.Names.{moved, after_line, after, first_point, Part, Says, Routes, Again, Owns, Transmits, Spelled, lines_of, puts, goes_out, packet_line, behind, spelled, group_of, outcome, Leads, TellsRightAlways, is_between}
-use Rattle.dm_rule.proofs.Names.{TellsRight, entry, in_bag, reception, id_eq-is, id_eq-same, Sound, bind-is, after_step, start-sound, at_machine, pid_of, id_of, slice_get, migrates, calls_off}
+use Rattle.dm_rule.proofs.Names.{TellsRight, entry, in_bag, reception, id_eq-is, id_eq-same, Sound, bind-is, after_step, start-sound, at_machine, pid_of, id_of, slice_get, migrates, calls_off, none_some}
 use Rattle.std.proofs.Common.{is_none}
 use Rattle.dm_onekernel.specs.Step as kernel
 use Rattle.dm_rule.specs.View as view
@@ -32,7 +32,7 @@ pub record Sane (pt : Point) : Type 0 where
 -- a message that is in the bag behind a step was there before, the same, or enters, and nothing was told of it
 pub came_from : (a b : Option PlainMessage) (e : ℕ) (x : PlainMessage) → e + (if is_none a && is_some b then 1 else 0) ≤ 1 → b ≡ Some x → ((y : PlainMessage) → a ≡ Some y → y ≡ x) → (e ≡ 0 → a ≡ Some x) → a ≡ Some x
 came_from (Some y) b e x once there same none = ap Some (same y refl)
-came_from None None e x once there same none = cc
+came_from None None e x once there same none = none_some x there
 came_from None (Some z) e x once there same none = none (omega (arith, once))
 
 was_there : (pt : Point) (l : Label) (s : OneKernel) (h : Sane pt) → kernel.step pt.kernel l ≡ Some s → (i : MsgId) (x : PlainMessage) (t : Told) → s.bag i ≡ Some x → pt.view.told i ≡ Some t → pt.kernel.bag i ≡ Some x

@@ -12,6 +12,7 @@ pub use Rattle.dm_onekernel.specs.Start.{memory_of}
 pub use Rattle.dm_onekernel.specs.declared.boot.Format.{Format}
 pub use Rattle.dm_laws.proofs.Counted.{is_of_memory, is_piece}
 pub use Rattle.dm_laws.proofs.Equal.{pid_eq-swap}
+pub use Rattle.dm_laws.proofs.Facts.{none_some}
 pub use Rattle.dm_laws.proofs.Grown.{Grown}
 pub use Rattle.dm_laws.proofs.Movers.{One, came, out_at, out_off}
 pub use Rattle.dm_laws.proofs.Names.{Switchboard, replay}

@@ -1,6 +1,6 @@
 -- The size of what moves: there is one of each server, and of each process that lives.
 use Rattle.dm_rulelaws.proofs.Names.{◌≡◌, ◌||◌, Bool, true, false, refl, false≢true, is_some, if◌then◌else◌, option_map, Option, None, Some, Pid, pid_eq, OneKernel, PlainProcess, switchboard, manager, is_alive, Size, size_of, process_size}
-use Rattle.dm_rulelaws.proofs.Names.{board_size, manager_size}
+use Rattle.dm_rulelaws.proofs.Names.{board_size, manager_size, none_some}
 use Rattle.dm_onekernel.specs.Step as kernel
 
 process_sized : (o : Option PlainProcess) → is_some o ≡ true → (x : Size) × (option_map process_size o ≡ Some x)
@@ -20,7 +20,7 @@ sized s p lives =
 alive_by : (c d : Bool) (o : Option PlainProcess) (a b x : Size) → (if c then Some a else if d then Some b else option_map process_size o) ≡ Some x → ((c || d) || is_some o) ≡ true
 alive_by true d o a b x e = refl
 alive_by false true o a b x e = refl
-alive_by false false None a b x e = cc
+alive_by false false None a b x e = none_some x e
 alive_by false false (Some y) a b x e = refl
 
 -- and who has one lives

@@ -1,6 +1,6 @@
 -- What the manager does with a message, row by row: whatever holds where each row leads holds of what it does.
 use Rattle.dm_rulelaws.proofs.Names.{◌≡◌, ℕ, ◌+◌, ◌*◌, ◌==◌, ◌&&◌, Bool, true, false, List, [], ◌∷◌, ◌++◌, length, refl, subst, nat_lt, if◌then◌else◌, Option, None, Some, Pid, PlainLink, PlainMessage, PlainWhat, Pending, Manager, Outcome}
-use Rattle.dm_rulelaws.proofs.Names.{PendingKind, code_of_outcome, arith, option_map_or, slice_get}
+use Rattle.dm_rulelaws.proofs.Names.{PendingKind, code_of_outcome, arith, option_map_or, slice_get, none_some}
 use Rattle.dm_onekernel.specs.Manager as manage
 
 -- a user message with these links
@@ -70,12 +70,12 @@ by_controls P g machines images m w code _ _ links h u is = by_bad P g machines 
 
 by_no_room : (P : manage.ManagerTook → Type 0) (g : Manager) (machines images : ℕ) (m : PlainMessage) (o : Option Pending) (k : manage.ManagerTook) → Manages P g machines images m PlainWhat.NoRoom
     → manage.pending_numbered m.id.n g.pending ≡ o → (manage.takes_answer g m.id.n g.children 1 []) o ≡ Some k → P k
-by_no_room P g machines images m None k h is e = cc
+by_no_room P g machines images m None k h is e = none_some k e
 by_no_room P g machines images m (Some r) k h is e = given P (manage.answers_over (record g { pending = manage.without_pending m.id.n g.pending }) r.answer 1 []) k (h.no_room r refl is) e
 
 by_moved : (P : manage.ManagerTook → Type 0) (g : Manager) (machines images : ℕ) (m : PlainMessage) (outcome : Outcome) (o : Option Pending) (k : manage.ManagerTook) → Manages P g machines images m (PlainWhat.Moved outcome) → manage.pending_numbered m.id.n g.pending ≡ o
     → (manage.takes_answer g m.id.n g.children (code_of_outcome outcome) []) o ≡ Some k → P k
-by_moved P g machines images m outcome None k h is e = cc
+by_moved P g machines images m outcome None k h is e = none_some k e
 by_moved P g machines images m outcome (Some r) k h is e = given P (manage.answers_over (record g { pending = manage.without_pending m.id.n g.pending }) r.answer (code_of_outcome outcome) []) k (h.moved outcome r refl is) e
 
 pub by_manager : (P : manage.ManagerTook → Type 0) (g : Manager) (machines images : ℕ) (m : PlainMessage) (w : PlainWhat) (k : manage.ManagerTook) → Manages P g machines images m w → manage.manager_takes g machines images m w ≡ Some k → P k
@@ -88,4 +88,4 @@ by_manager P g machines images m (PlainWhat.User code channel body links) k h e 
 by_manager P g machines images m (PlainWhat.Created child) k h e = search (arith, given)
 by_manager P g machines images m PlainWhat.NoRoom k h e = by_no_room P g machines images m (manage.pending_numbered m.id.n g.pending) k h refl e
 by_manager P g machines images m (PlainWhat.Moved outcome) k h e = by_moved P g machines images m outcome (manage.pending_numbered m.id.n g.pending) k h refl e
-by_manager P g machines images m _ k h e = cc
+by_manager P g machines images m _ k h e = none_some k e

@@ -2,7 +2,7 @@
 use Rattle.dm_mirror.proofs.Names.{◌≡◌, ◌≢◌, ℕ, ◌+◌, ◌/◌, ◌<◌, ◌==◌, ◌&&◌, Bool, true, false, nat_le, List, [], length, map, refl, ap, ◌∙◌, sym, subst, arith, if◌then◌else◌, slice_get, Option, Some, false≢true, All-nil, Pid, pid_eq, after}
 use Rattle.dm_mirror.proofs.Names.{Message, MsgId, What, Record, Line, Stage, MessageKind, kind_of, IsLawfulMessage, Process, free_blocks, free_slots, incoming_of, Chunk, expected, CanMove, HasChunk, state_of, coming, Boot}
 use Rattle.dm_mirror.proofs.Names.{slots_of, plain_process, pid_eq-same, told_step, Moves, kind_comes, knows, kind_leaves, Point, Room, fits, free_room, taken_at, taken_by, at_pid, at_record, Known, Unknown, Frozen, ◌∷◌}
-use Rattle.dm_mirror.proofs.Names.{Incoming, Forward, front_of, is_server, has_nothing_held, Placed, room_of, accepts, with_expected, kernel_handles, KernelState, KnownStands, KernelStands, RoomStands, AllRecords, Carries, source_knows}
+use Rattle.dm_mirror.proofs.Names.{Incoming, Forward, front_of, is_server, has_nothing_held, Placed, accepts, with_expected, kernel_handles, KernelState, KnownStands, KernelStands, RoomStands, AllRecords, Carries, source_knows}
 use Rattle.dm_mirror.proofs.Names.{and_false, tells_onward, nat_tests, sort_of, drop, IsReadAgain, Cargo, CanBeCarried, ask_for, IsSuch, ◌⊎◌, ◌≤◌, Of, Spot, Told, View, apart_is, cases_Bool, eqb-true, inl, inr, is_between, pid_of, standing}
 use Rattle.dm_mirror.proofs.Names.{told_of, is_due_piece, pulls_piece, Asks, Brought, IsLeft, is_calloff, ranked_in, never_behind, Ranked, added, PredsStand}
 use Rattle.dm_room.specs.Room as room_
@@ -28,7 +28,7 @@ use Rattle.dm_mirror.proofs.Residents.{OfBoard, OfManager, OfProcess, cargo_queu
 use Rattle.dm_mirror.proofs.Rooms.{taken_but_servers}
 use Rattle.dm_mirror.proofs.Sized.{size_at, size_blocks}
 use Rattle.dm_mirror.proofs.Leave.Goes.{life_some}
-use Rattle.dm_mirror.proofs.Names.{Addresses, IsOfSystem, MadeStands, MirrorsKernel, Resident, None, option_map, resident_at, ◌||◌}
+use Rattle.dm_mirror.proofs.Names.{Addresses, IsOfSystem, MadeStands, MirrorsKernel, Resident, option_map, resident_at, ◌||◌}
 
 -- the machine that it leaves holds it back
 frozen_is : (d : ℕ) (n : Known) → kind_leaves MessageKind.Ask d n ≡ true → (to : ℕ) × (n ≡ Frozen to)

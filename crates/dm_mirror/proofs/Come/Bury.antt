@@ -1,6 +1,6 @@
 -- A machine is told that a process has ended: it forgets it, and tells its predecessors.
 use Rattle.dm_mirror.proofs.Names.{◌≡◌, ℕ, ◌+◌, ◌≤◌, ◌==◌, Bool, true, false, List, [], ◌∷◌, ◌++◌, length, map, refl, ap, ◌∙◌, sym, subst, inl, inr, arith, if◌then◌else◌, Option, None, Some, cases_Bool, eqb_tells, nat_tests, Pid, pid_eq}
-use Rattle.dm_mirror.proofs.Names.{pid_eq-is, pid_eq-same, Message, MsgId, What, MessageKind, Line, Boot, IsValid, Point, at_machine, without_front, standing, Spot, View, Known, Unknown, Of, Told, told_of, is_away, is_server}
+use Rattle.dm_mirror.proofs.Names.{pid_eq-is, pid_eq-same, Message, MsgId, What, MessageKind, Line, Boot, IsValid, Point, at_machine, without_front, standing, Spot, View, Known, Unknown, Of, Told, told_of, is_away}
 use Rattle.dm_mirror.proofs.Names.{is_waited_from, is_process, left_true, takes_room, handled, mirrors_view, KernelState, KnownStands, AllRecords, Part, Placed, turned, to_kernel, forgetting, bury_away}
 use Rattle.dm_rule.specs.Parts as rule
 use Rattle.dm_rule.specs.View as view

@@ -1,12 +1,11 @@
 -- A message about a process that comes to a machine, at the front of its inbox: what is known then.
-use Rattle.dm_mirror.proofs.Names.{◌≡◌, ℕ, ◌+◌, ◌≤◌, Bool, true, false, List, ◌∷◌, refl, ap, ◌∙◌, sym, subst, inl, inr, is_some, arith, if◌then◌else◌, option_map, Option, None, Some, false≢true, nat_tests, Pid, pid_of, kernel_at, Message}
-use Rattle.dm_mirror.proofs.Names.{MsgId, MessageKind, kind_of, PlainMessage, plain_message, Process, incoming_of, Boot, bind, plain_process, id_eq-same, is_between, tells_onward, Moves, IsIn, receiver_in, sender_in, Point, Spot, Inbox}
-use Rattle.dm_mirror.proofs.Names.{StandsOnce, StandsOutside, standing, times, Of, Told, is_kernels, stands_right, not_kernels, token_at, is_server, Run, Placed, Mirrors, KernelState, MadeStands, AllOwnStand, OwnStands, about_of, told_of}
-use Rattle.dm_mirror.proofs.Names.{AreMessages, KernelStands, AllRecords, Carries, TokensStand, destination_of, inbox_is, ◌*◌, ◌/◌, ◌==◌, not, [], length, map, nat_lt, nat_le}
+use Rattle.dm_mirror.proofs.Names.{◌≡◌, ℕ, ◌+◌, ◌≤◌, Bool, true, false, List, ◌∷◌, refl, ap, ◌∙◌, sym, subst, inl, inr, arith, if◌then◌else◌, Option, None, Some, false≢true, nat_tests, Pid, pid_of, kernel_at, Message}
+use Rattle.dm_mirror.proofs.Names.{MsgId, MessageKind, kind_of, PlainMessage, plain_message, incoming_of, Boot, bind, id_eq-same, is_between, tells_onward, Moves, IsIn, receiver_in, sender_in, Point, Spot, Inbox}
+use Rattle.dm_mirror.proofs.Names.{StandsOnce, StandsOutside, standing, times, Of, Told, is_kernels, stands_right, not_kernels, token_at, Run, Placed, Mirrors, KernelState, MadeStands, AllOwnStand, OwnStands, about_of, told_of}
+use Rattle.dm_mirror.proofs.Names.{AreMessages, KernelStands, AllRecords, Carries, TokensStand, destination_of, inbox_is, ◌*◌, ◌/◌, ◌==◌, not, length, nat_lt, nat_le}
 use Rattle.dm_mirror.proofs.Names.{Chunk, Block, Nothing, after_block, after_chunk, is_last, state_of, HasPiece, chunks_of, pieces_of, IsAsked, Resident, resident_at}
 use Rattle.dm_mirror.proofs.Names.{sort_of, ◌<◌, Cargo, cargo_at, cargo_of, ◌&&◌, eq_self, is_due_piece, brings_piece, is_calloff, is_stale, is_waited_from, destination_expects}
 use Rattle.dm_rule.proofs.QuietTests.{eq_is}
-use Rattle.dm_onekernel.specs.Step as kernel
 use Rattle.dm_mirror.proofs.Handle.Taking.{some_same}
 use Rattle.dm_mirror.proofs.Cargoes.{IsCargoOf, is_cargo_of}
 use Rattle.dm_mirror.proofs.LeftOver.{brings_on, due_of, onward_on, piece_late}

@@ -1,8 +1,7 @@
 -- What has come has moved once more, and is there, as the kernel with places has it.
-use Rattle.dm_mirror.proofs.Names.{◌≡◌, ◌∙◌, ◌+◌, Bool, true, false, List, [], refl, ap, sym, subst, if◌then◌else◌, option_map, Option, None, Some, Pid, pid_eq, pid_eq-same, MsgId, Message, Process, Board, Managing, Resident, Boot, Point, Run, Line, Stage, moved}
-use Rattle.dm_mirror.proofs.Names.{Placed, MirrorsPoint, resident_at, is_server, switchboard, manager, process_restarted, absent_moved, PlainProcess, plain_process, Life, life_sort, false≢true, is_some}
+use Rattle.dm_mirror.proofs.Names.{◌≡◌, ◌∙◌, ◌+◌, Bool, true, false, [], refl, ap, sym, subst, if◌then◌else◌, option_map, Option, None, Some, Pid, pid_eq, pid_eq-same, Process, Board, Managing, Resident, Boot, Point, Run, Line, Stage, moved}
+use Rattle.dm_mirror.proofs.Names.{Placed, MirrorsPoint, resident_at, is_server, switchboard, manager, process_restarted, absent_moved, plain_process, Life, life_sort, false≢true, is_some}
 use Rattle.dm_resident.specs.Residents as residents
-use Rattle.dm_onekernel.specs.Step as kernel
 use Rattle.dm_mirror.proofs.Gone.{living_sort}
 use Rattle.dm_mirror.proofs.Residents.{OfBoard, OfManager, OfProcess, SameSystem, board_others, made_apart, manager_others, process_at, process_there, resident_same, same_manager, server_none, who}
 

@@ -1,8 +1,8 @@
 -- What has come goes on: it is here, a process at the ring's back, and what was held for it comes before the inbox.
-use Rattle.dm_mirror.proofs.Names.{takes_room, ◌≡◌, ◌≢◌, ℕ, ◌+◌, ◌/◌, ◌≤◌, ◌==◌, Bool, true, false, List, [], ◌∷◌, ◌++◌, length, map, refl, ap, ◌∙◌, sym, subst, inl, inr, arith, if◌then◌else◌, Option, Some, cases_Bool, nat_tests}
-use Rattle.dm_mirror.proofs.Names.{false≢true, Pid, pid_eq, Message, MsgId, What, Record, Line, Stage, MessageKind, kind_of, incoming_of, with_record, Nothing, Boot, bind, plain_process, pid_eq-is, pid_eq-same, told_step, Moves, is_early}
-use Rattle.dm_mirror.proofs.Names.{knows, Point, moved, fits, free_room, at_machine, Spot, Held, Inbox, standing, times, Known, Here, Of, View, once_at, times-append, is_server, has_no_queue, Placed, process_restarted, mirrors_view}
-use Rattle.dm_mirror.proofs.Names.{restarts, restarts_as, kernel_handles, KernelState, AreMessages, KnownStands, AllRecords, Carries, least_of, at_record_at, Outcome, Arrival, tells_asker, Told, is_between, sort_of, drop, Cargo, LeftStands}
+use Rattle.dm_mirror.proofs.Names.{takes_room, ◌≡◌, ◌≢◌, ℕ, ◌+◌, ◌≤◌, ◌==◌, Bool, true, false, List, [], ◌∷◌, ◌++◌, length, map, refl, ap, ◌∙◌, sym, subst, inl, inr, arith, if◌then◌else◌, Option, Some, cases_Bool, nat_tests}
+use Rattle.dm_mirror.proofs.Names.{false≢true, Pid, pid_eq, Message, MsgId, What, Record, Line, Stage, MessageKind, kind_of, incoming_of, with_record, Nothing, Boot, bind, pid_eq-is, pid_eq-same, told_step, Moves, is_early}
+use Rattle.dm_mirror.proofs.Names.{knows, Point, moved, fits, free_room, at_machine, Spot, Held, Inbox, standing, times, Known, Here, Of, View, once_at, times-append, has_no_queue, Placed, mirrors_view}
+use Rattle.dm_mirror.proofs.Names.{restarts, restarts_as, kernel_handles, KernelState, AreMessages, KnownStands, AllRecords, Carries, least_of, at_record_at, Outcome, Arrival, Told, is_between, sort_of, drop, Cargo, LeftStands}
 use Rattle.dm_mirror.proofs.Names.{is_due_piece, pulls_piece}
 use Rattle.dm_rule.proofs.Names.{Part}
 use Rattle.dm_mirror.proofs.Leave.Answered.{EndsMove, ends_move_row}

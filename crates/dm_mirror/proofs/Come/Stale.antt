@@ -1,5 +1,5 @@
 -- A piece comes that isn't awaited: a line says so, and nothing else changes.
-use Rattle.dm_mirror.proofs.Names.{◌≡◌, ℕ, ◌+◌, ◌/◌, ◌==◌, ◌&&◌, not, Bool, true, false, List, [], ◌∷◌, length, map, refl, ap, ◌∙◌, sym, arith, if◌then◌else◌, Option, Some, false≢true, Pid, Message, kind_of, Line, Boot, bind}
+use Rattle.dm_mirror.proofs.Names.{◌≡◌, ℕ, ◌+◌, ◌==◌, ◌&&◌, not, Bool, true, false, List, [], ◌∷◌, map, refl, ap, ◌∙◌, sym, arith, if◌then◌else◌, Option, Some, false≢true, Pid, Message, kind_of, Line, Boot, bind}
 use Rattle.dm_mirror.proofs.Names.{Point, moved, incoming_of, kernel_handles, KernelState, Part, turned, told_step, fits, free_room, sort_of, kernel_hears, Of, about_of, told_of, Placed, AllRecords, at_machine, without_front}
 use Rattle.dm_mirror.proofs.Names.{mirrors_view, hears_piece, is_expected, says_stale, takes_piece, is_stale, is_waited_from, brings_piece, false_from_ne_true, left_true, buried}
 use Rattle.dm_rule.specs.Migrating.{Size, size_of}

@@ -1,7 +1,7 @@
 -- A turn that handles such a message says a line, or two, and answers, or says a line alone; what it leaves as it was.
 use Rattle.dm_mirror.proofs.Names.{turns, ◌≡◌, ◌≢◌, ℕ, ◌+◌, ◌≤◌, ◌==◌, Bool, true, false, List, [], ◌∷◌, map, refl, ap, ◌∙◌, sym, subst, arith, if◌then◌else◌, slice_get, Option, None, Some, false≢true, nat_tests, Addr, Pid, pid_eq, pid_of}
 use Rattle.dm_mirror.proofs.Names.{place_of, kernel_at, Message, MsgId, What, id_of, kind_of, plain_what, with_what, Step, incoming_of, Boot, id_eq-same, Line, Addresses, Gets, Receiver, Sender, given, goes_between, own_given, unmoved}
-use Rattle.dm_mirror.proofs.Names.{to_kernel, is_between, tells_onward, Point, after, outcome, taken_at, at_machine, Spot, Inbox, standing, times, Known, Of, View, once_at, is_server, Placed, enclosed, mirrors_view, room_of, KernelState}
+use Rattle.dm_mirror.proofs.Names.{to_kernel, is_between, tells_onward, Point, after, outcome, taken_at, at_machine, Spot, Inbox, standing, times, Known, Of, View, once_at, Placed, enclosed, mirrors_view, room_of, KernelState}
 use Rattle.dm_mirror.proofs.Names.{own, about_of, told_of, KnownStands, RoomStands, AllRecords, Carries, TokensStand, destination_of, eq_is, sort_of, ◌⊎◌, inl, inr, Moves, Told, is_due_piece, PredsStand}
 use Rattle.dm_rule.proofs.Names.{Part}
 pub use Rattle.dm_rule.proofs.Lines.{eq_self, at_machine_at as machine_self}

@@ -5,7 +5,7 @@ use Rattle.dm_mirror.proofs.Names.{Option, None, Some, eqb_tells, Message, Packe
 use Rattle.dm_mirror.proofs.Names.{Turned, Out, NodeState, here, with_message, with_receiver, with_sender, Acted, Acts, Goes, Worn, then_, acts, comes_in, gives, is_worn, lets_go, lets_next, none_waits, routes, routes_away, routes_home}
 use Rattle.dm_mirror.proofs.Names.{sends_due, takes_kept, takes_next, FitsLoad, spoken, with_packet, AreReadBack, NodeReads, SenderReads, WiresRead, ◌+◌, nat_lt, arith, fresh_sending, Boot, Step, tick, WorldState, acted, first_world}
 use Rattle.dm_mirror.proofs.Names.{IsReadable, ◌-◌, ◌<◌, ◌≤◌, length, slice_get, cases_Bool, nat_tests, length-append, length-drop, slice_get_within, numbered, outstanding, get-drop, ◌≢◌, MsgId, advanced, kept_once, load_at, Line}
-use Rattle.dm_mirror.proofs.Names.{at_machine, at_pair, NothingElse, Pair, at_least, oldest, Inbox, times, Point, moved, Placed, History, StandsWith, marked, Part, Ok}
+use Rattle.dm_mirror.proofs.Names.{at_machine, at_pair, NothingElse, Pair, at_least, oldest, Inbox, times, Point, moved, Placed, History, StandsWith, marked, Part, Ok, none_some}
 use Rattle.dm_stream.specs.Stream as flow
 use Rattle.dm_node.proofs.Names.{with_sent}
 use Rattle.dm_node.proofs.Names.{behind}
@@ -197,7 +197,7 @@ marked_read wires a c k h x y j bytes e = marked_by ((a == x) && (c == y)) e
 -- what is put last, or was there
 put_bytes : (xs : List Sent) (new bytes : List ℕ) (j : ℕ) → bytes_at (xs ++ wire.just_put new ∷ []) j ≡ Some bytes → (bytes_at xs j ≡ Some bytes) ⊎ (new ≡ bytes)
 put_bytes [] new bytes zero e = inr cc
-put_bytes [] new bytes (suc j) e = cc
+put_bytes [] new bytes (suc j) e = none_some bytes e
 put_bytes (x ∷ xs) new bytes zero e = inl e
 put_bytes (x ∷ xs) new bytes (suc j) e = put_bytes xs new bytes j e
 

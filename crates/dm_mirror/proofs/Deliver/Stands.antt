@@ -2,7 +2,7 @@
 use Rattle.dm_mirror.proofs.Names.{drop-more, ◌-◌, Stream, eqb-true, ◌≡◌, ◌≢◌, ℕ, ◌≤◌, ◌==◌, ◌&&◌, false, List, length, ap, ◌∙◌, sym, subst, inl, inr, arith, Option, All, cases_Bool, nat_tests, Pid, Message, MsgId, IsLawfulMessage, Sending}
 use Rattle.dm_mirror.proofs.Names.{Receiving, Sent, Boot, Pair, Point, Spot, Queue, Held, Inbox, Untaken, standing, times, two_of, Placed, NodeState, WorldState, AreMessages, History, NodeStands, PairStands, StandsWith, TokensStand, Bool}
 use Rattle.dm_mirror.proofs.Names.{[], ◌∷◌, refl, if◌then◌else◌, Some, Packet, Line, Load, at_machine, Spelled, spelled, after_line, Sends, Acted, before, spoken, with_packet, zero, suc, ◌+◌, ◌++◌, drop, slice_get, id_eq, id_eq-is}
-use Rattle.dm_mirror.proofs.Names.{id_eq-same, at_pair, untaken, View, oldest, times-append, behind}
+use Rattle.dm_mirror.proofs.Names.{id_eq-same, at_pair, untaken, View, oldest, times-append, behind, none_some}
 use Rattle.dm_rule.proofs.Names.{Part}
 use Rattle.dm_node.specs.declared.out.Out.TheVariants.{Says}
 use Rattle.dm_node.specs.Wired.{packet_line}
@@ -80,8 +80,8 @@ untaken_stood i p q ids more least = grind (arith, nat_tests, drop_fewer)
 
 -- the message that is next stands untaken
 get_times : (i : MsgId) (ids : List MsgId) (n : ℕ) → slice_get ids n ≡ Some i → 1 ≤ times i (drop n ids)
-get_times i [] zero e = cc
-get_times i [] (suc n) e = cc
+get_times i [] zero e = none_some i e
+get_times i [] (suc n) e = none_some i e
 get_times i (j ∷ js) zero e = grind (arith, nat_tests, id_eq-same)
 get_times i (j ∷ js) (suc n) e = get_times i js n e
 

@@ -1,15 +1,14 @@
 -- What a machine has of a process or a server at the end, by what the lines say that it knows.
-use Rattle.dm_mirror.proofs.Names.{View, ◌≡◌, ◌≢◌, ◌⊎◌, ℕ, ◌<◌, ◌==◌, Bool, true, false, is_some, List, refl, ap, ◌∙◌, sym, subst, inl, inr, cases_Bool, arith, option_map, Option, None, Some, nat_tests, Pid, pid_of, MessageKind, Record, About, with_what, Process}
+use Rattle.dm_mirror.proofs.Names.{View, ◌≡◌, ◌≢◌, ◌⊎◌, ℕ, ◌<◌, ◌==◌, true, false, is_some, List, refl, ap, ◌∙◌, sym, subst, inl, inr, cases_Bool, arith, option_map, Option, None, Some, nat_tests, Pid, pid_of, MessageKind, Record, About, with_what, Process}
 use Rattle.dm_mirror.proofs.Names.{incoming_of, Arrival, Nothing, Boot, Alive, plain_process, EndLine, Standing, or, list_line, Stood, stood_at, first_with, is_away, is_due, Point, Known, Unknown, Incoming, Told, not_true, is_server, Run}
-use Rattle.dm_mirror.proofs.Names.{Placed, WorldState, alive_lines, awaited_lines, come_lines, first_awaited, first_had, first_says, lines_in, record_lines, record_queue, told_of, History, KnownStands, StandsWith, Wants, alive-is, []}
-use Rattle.dm_mirror.proofs.Names.{Message, MsgId, What, kind_of, Here, Frozen, Forward, come_whole, held_for, names_of, has_nothing_held, AreMessages, ComesStand, Carries, ◌≤◌, ◌∷◌, ◌/◌, length, map, IfSome, IsValid, Manager, plain_child}
-use Rattle.dm_mirror.proofs.Names.{Step, Leads, first_point, EndMay, Cargo, PlainProcess, Ended, ended_away, living_phase, Life, Why, false≢true, Resident, resident_at, Phase, Rests, Moves, IsIn, switchboard, manager, Mirrors, Switchboard, restarted, HereStands, append_assoc, Managing, if◌then◌else◌, not, ◌++◌}
+use Rattle.dm_mirror.proofs.Names.{Placed, WorldState, awaited_lines, come_lines, first_awaited, first_had, first_says, lines_in, record_lines, record_queue, told_of, History, KnownStands, StandsWith, Wants, alive-is, [], none_some}
+use Rattle.dm_mirror.proofs.Names.{Message, MsgId, What, kind_of, Here, Frozen, Forward, come_whole, held_for, names_of, has_nothing_held, AreMessages, ComesStand, Carries, ◌≤◌, ◌∷◌, length, map, IfSome, IsValid, Manager, plain_child}
+use Rattle.dm_mirror.proofs.Names.{Step, Leads, first_point, EndMay, Cargo, PlainProcess, Ended, ended_away, living_phase, Life, Why, false≢true, Resident, resident_at, Phase, IsIn, switchboard, manager, Switchboard, restarted, HereStands, append_assoc, Managing, if◌then◌else◌, not, ◌++◌}
 use Rattle.dm_resident.specs.Lawful.{IsLawfulResident}
 use Rattle.dm_kernel.specs.Lawful.{IsLawfulKnown}
 use Rattle.dm_resident.specs.Residents as residents
 use Rattle.dm_onekernel.specs.Step as kernel
 use Rattle.dm_rule.specs.Ends as rule
-use Rattle.dm_rule.specs.Phases.{Nowhere, Over, knows, is_unknown}
 use Rattle.dm_rule.proofs.Phases.Ends.{is_gone}
 use Rattle.dm_kernel.specs.State as machine
 use Rattle.dm_world.specs.Ends as world
@@ -76,9 +75,9 @@ is_at l p q held m s Here (Some (Record.Here x)) e h =
 is_at l p q held m s (Frozen to) (Some (Record.Frozen x)) e h =
     let f : Standing.Leaving ≡ s = cc in
     subst (λ (t : Standing). IsAt l p q m t (Some (Record.Frozen x))) f (record { resident = x.resident; lines = refl; queue = refl; kept = refl; rest = h.here.0.0; placed = h.here.0.1; waits = h.here.1 })
-is_at l p q held m s Unknown None e h = cc
-is_at l p q held m s (Incoming from) (Some (Record.Incoming x)) e h = cc
-is_at l p q held m s (Forward at moves) (Some (Record.Forward x y)) e h = cc
+is_at l p q held m s Unknown None e h = none_some s e
+is_at l p q held m s (Incoming from) (Some (Record.Incoming x)) e h = none_some s e
+is_at l p q held m s (Forward at moves) (Some (Record.Forward x y)) e h = none_some s e
 is_at l p q held m s k r e h = absurd h
 
 -- one that has nothing of it, says nothing

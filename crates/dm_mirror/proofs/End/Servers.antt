@@ -1,6 +1,6 @@
 -- What is said of the servers at the end, and of the messages on the way between two machines.
 use Rattle.dm_mirror.proofs.Names.{◌≡◌, ◌≢◌, ℕ, suc, ◌+◌, ◌-◌, ◌==◌, Bool, true, false, List, [], ◌∷◌, ◌++◌, map, drop, refl, ap, ◌∙◌, sym, arith, if◌then◌else◌, slice_get, Some, nat_tests, drop-drop, drop-map, drop_all, Addr, place_of}
-use Rattle.dm_mirror.proofs.Names.{Place, plain_link, Message, Boot, switchboard, manager, Switchboard, Manager, Named, plain_named, plain_child, plain_pending, plain_manager, EndLine, Addresses, Child, Name, list_line, HomeStands, Point}
+use Rattle.dm_mirror.proofs.Names.{Place, plain_link, Message, Boot, manager, Switchboard, Manager, Named, plain_named, plain_child, plain_pending, EndLine, Addresses, Child, Name, list_line, HomeStands, Point}
 use Rattle.dm_mirror.proofs.Names.{Placed, Mirrors, WorldState, History, PairStands, zero, ◌<◌, Option, None, Pid, pid_of, MsgId, first_number, or, home_with, joined_below, AreMessages, option_map, Link, link_at, Process, plain_process}
 use Rattle.dm_mirror.proofs.Names.{Standing, Slot, ◌⊎◌, subst, inl, inr, cases_Bool, false≢true, MessageKind, Phase, Rests, Moves, IsIn, IsToken, kind_comes, is_away, is_due, is_restart, kind_leaves, View, Known, is_gone, Here, Frozen}
 use Rattle.dm_mirror.proofs.Names.{Incoming, eq_self, is_it, left_true, not_false, message_id, not, ◌&&◌, Pending}

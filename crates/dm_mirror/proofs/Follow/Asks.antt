@@ -1,9 +1,9 @@
 -- A directive to move a process or a server: the manager's message goes to it, or a line says why none does.
-use Rattle.dm_mirror.proofs.Names.{Child, ◌≡◌, ℕ, ◌+◌, ◌≤◌, ◌==◌, ◌||◌, Bool, true, false, List, [], ◌∷◌, refl, ap, ◌∙◌, sym, inl, inr, arith, if◌then◌else◌, cond, Option, None, Some, Err, cases_Bool, false≢true, nat_tests, Addr, Pid}
-use Rattle.dm_mirror.proofs.Names.{pid_eq, pid_of, place_of, Message, What, MessageKind, MoveError, Step, id_of, Boot, manager, switchboard, address_at, child_named, tells_to_move, asks_manager, asks_move, told_to_move}
+use Rattle.dm_mirror.proofs.Names.{Child, ◌≡◌, ℕ, ◌+◌, ◌≤◌, ◌==◌, Bool, true, false, List, [], ◌∷◌, refl, ap, ◌∙◌, sym, inl, inr, arith, if◌then◌else◌, cond, Option, None, Some, cases_Bool, false≢true, nat_tests, Addr, Pid}
+use Rattle.dm_mirror.proofs.Names.{pid_eq, pid_of, place_of, Message, What, MessageKind, Step, id_of, Boot, manager, switchboard, address_at, child_named, tells_to_move, asks_manager, asks_move, told_to_move}
 use Rattle.dm_mirror.proofs.Names.{KernelState, id_eq-same, pid_eq-is, Line, Receiver, Sender, child_number, unmoved, migrates, Point, after, moved, at_machine, standing, Run, Placed, Mirrors, mirrors_view, child_place}
-use Rattle.dm_mirror.proofs.Names.{no_child, AllOwnStand, KernelStands, AllRecords, TokensStand, ◌≢◌, ◌&&◌, not, kind_of, plain_what, Known, Unknown, Here, Frozen, Incoming, Forward, is_server, is_fixed, is_place, is_target, own_sort, Part}
-use Rattle.dm_mirror.proofs.Names.{option_map_or, with_sent, acting_place}
+use Rattle.dm_mirror.proofs.Names.{no_child, AllOwnStand, KernelStands, AllRecords, TokensStand, ◌≢◌, ◌&&◌, not, kind_of, plain_what, Known, Unknown, Here, Frozen, Incoming, Forward, is_fixed, is_place, is_target, own_sort, Part}
+use Rattle.dm_mirror.proofs.Names.{with_sent, acting_place, none_some}
 use Rattle.dm_procman.specs.Moving.{known_address}
 use Rattle.dm_rule.specs.Addresses.{known_place}
 use Rattle.dm_rule.specs.Migrating.{migrates_to}
@@ -42,7 +42,7 @@ pub record Asks (b : Boot) (m : ℕ) (pt : Point) (l : Placed) (records : AllRec
 
 -- the child that a name finds bears it
 named_is : (cs : List Addr) (p : Pid) (c : Addr) → child_named p cs ≡ Some c → c.pid ≡ p
-named_is [] p c e = cc
+named_is [] p c e = none_some c e
 named_is (d ∷ ds) p c e = elim (cases_Bool (pid_eq d.pid p)) [
   | inl same ↦
       let g : d ≡ c = cc in

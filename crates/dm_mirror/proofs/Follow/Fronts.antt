@@ -1,6 +1,6 @@
 -- The kernel of a machine still stands where the message at its front is held, goes on or makes links follow.
 use Rattle.dm_mirror.proofs.Names.{◌≡◌, ℕ, ◌≤◌, ◌<◌, ◌==◌, Bool, true, false, List, [], ◌∷◌, map, refl, ap, ◌∙◌, sym, subst, Option, None, Some, false≢true, Pid, pid_eq, MsgId, Message, What, MessageKind, kind_of, plain_kind, PlainMessage}
-use Rattle.dm_mirror.proofs.Names.{PlainWhat, plain_message, plain_what, with_what, Boot, switchboard, manager, bind, KernelState, is_between, Point, Inbox, times, standing, About, Told, is_server, is_fixed, OwnTold, own_sort, Run, Placed}
+use Rattle.dm_mirror.proofs.Names.{PlainWhat, plain_message, plain_what, with_what, Boot, bind, KernelState, is_between, Point, Inbox, times, standing, About, Told, OwnTold, own_sort, Run, Placed}
 use Rattle.dm_mirror.proofs.Names.{Mirrors, parts, AllOwnStand, told_of, AreMessages, KernelStands, AllRecords, TokensStand, told_there, ◌≢◌, ◌+◌, inl, inr, arith, if◌then◌else◌, cases_Bool, nat_tests, id_eq, id_eq-is, id_eq-same}
 use Rattle.dm_mirror.proofs.Names.{at_machine, without_front, Spot, Held, StandsOnce, StandsOutside, StandsRight, Known, is_kernels, stands_right, once_at, KnownStands, with_record, handles, Turned, pid_eq-same, process_told, comes_to, not}
 use Rattle.dm_mirror.proofs.Names.{slice_get, incoming_of, Taken, Wanted, Arrival, room_of, turns, pid_eq-is, Line, Addresses, after, after_line, taken_at, Queue, Of, View, handled, OwnStands, RoomStands, resident_at, Carries, Wants}

@@ -1,10 +1,10 @@
 -- A kernel's own message at a process or a server that has ended, and an update at one that is here.
-use Rattle.dm_mirror.proofs.Names.{◌≡◌, ◌≢◌, ℕ, ◌+◌, ◌≤◌, ◌==◌, Bool, true, false, List, [], ◌∷◌, refl, ap, ◌∙◌, sym, subst, nat_le, arith, if◌then◌else◌, count_by, option_map, Option, None, Some, false≢true, Addr, Pid, pid_eq, nat_tests}
-use Rattle.dm_mirror.proofs.Names.{slot_is_behind, applied, Message, MsgId, What, Record, Line, kind_of, plain_message, plain_what, with_what, Process, incoming_of, named_is_behind, pending_is_behind, Boot, switchboard, manager, Life}
+use Rattle.dm_mirror.proofs.Names.{◌≡◌, ◌≢◌, ℕ, ◌+◌, ◌≤◌, Bool, true, false, List, [], ◌∷◌, refl, ap, ◌∙◌, sym, subst, arith, if◌then◌else◌, count_by, Option, None, Some, false≢true, Addr, Pid, pid_eq, nat_tests}
+use Rattle.dm_mirror.proofs.Names.{slot_is_behind, applied, Message, MsgId, What, Record, Line, kind_of, plain_message, plain_what, with_what, Process, incoming_of, named_is_behind, Boot, switchboard, manager}
 use Rattle.dm_mirror.proofs.Names.{KernelState, with_known, pid_eq-same, HereStands, Resident, resident_at, AreMessages, id_eq, or-left, or-right, place_told, behind_count, told_here, updates, Phase, Rests, is_away, is_between, is_here, knows, Point, moved, Inbox}
 use Rattle.dm_mirror.proofs.Names.{Spot, standing, Known, Here, Of, Told, rests_here, is_fixed, Run, Placed, Mirrors, mirrors_view, board_told, manager_told, updated_board_mirrors, updated_manager_mirrors, updated_mirrors}
-use Rattle.dm_mirror.proofs.Names.{updated_board_count, updated_count, updated_manager_count, about_of, told_of, KnownStands, AllRecords, Wants, MessageKind, PlainMessage, Managing, Board, Addresses, told_ended, after_line}
-use Rattle.dm_mirror.proofs.Names.{updated_ended_mirrors, no_process, Wanted, is_server, Part, sort_of, ◌⊎◌, inl, inr, Moves, View, is_due_piece, pulls_piece, Asks, Comes, is_alive, ◌||◌, Unknown, is_some}
+use Rattle.dm_mirror.proofs.Names.{updated_board_count, updated_count, updated_manager_count, about_of, told_of, KnownStands, AllRecords, Wants, MessageKind, PlainMessage, Addresses, told_ended, after_line}
+use Rattle.dm_mirror.proofs.Names.{updated_ended_mirrors, no_process, Wanted, is_server, Part, sort_of, ◌⊎◌, inl, inr, Moves, View, is_due_piece, pulls_piece, Asks, Comes, is_alive, Unknown, is_some}
 use Rattle.dm_procman.specs.Managing.{behind_in}
 use Rattle.dm_places.specs.PlacedStep.{with_process}
 use Rattle.dm_mirror.proofs.Recorded.{recorded, recorded_process}
@@ -13,7 +13,6 @@ use Rattle.dm_mirror.proofs.Residents.{OfBoard, OfManager, OfProcess, SameSystem
 use Rattle.dm_mirror.proofs.Follow.Fronts.{front_still, Fronts, at_front, eq_off, machine_process, rule_process, set_other, set_self, handled_point, turns_follow, handled_view}
 use Rattle.dm_mirror.proofs.Turning.{TurnsAt, begun, has_process}
 use Rattle.dm_mirror.proofs.Kernel.Sets.{away_process as away_not}
-use Rattle.dm_link.specs.Places as places
 use Rattle.dm_onekernel.specs.Step as kernel
 use Rattle.dm_kernel.specs.Handle as machine_handle
 use Rattle.dm_mirror.proofs.LeftOver.{IsDue, IsOver, Which, brings_on, which}

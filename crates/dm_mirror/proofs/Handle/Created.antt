@@ -2,7 +2,7 @@
 use Rattle.dm_mirror.proofs.Names.{◌≡◌, ◌≢◌, ℕ, ◌+◌, ◌≤◌, ◌==◌, ◌&&◌, Bool, true, false, List, [], ◌∷◌, ◌++◌, map, refl, ap, ◌∙◌, sym, subst, is_some, arith, if◌then◌else◌, slice_get, Option, None, Some, false≢true, Pid, nat_tests, pid_of}
 use Rattle.dm_mirror.proofs.Names.{pid_eq, PlainLink, MsgId, Message, What, Record, Label, Line, PlainMessage, PlainWhat, plain_message, Process, begun_process, answer, Boot, BootImage, first_number, image_is_valid, slots_of, Alive}
 use Rattle.dm_mirror.proofs.Names.{OneKernel, bind, answer_id, answer_to, without_message, memory_of, slots_with, pid_eq-same, Routes, Point, Room, and, taken_at, taken_by, at_record, without_front, Spot, Queue, Held, Inbox, standing}
-use Rattle.dm_mirror.proofs.Names.{Known, after_label, is_kernels, bag_none, bag_created, has_no_queue, fresh_child, Placed, plainly, create_what, child_of, with_child, next_pid, KernelState, turned, KnownStands, ◌<◌, ◌||◌, IsValid}
+use Rattle.dm_mirror.proofs.Names.{Known, after_label, is_kernels, bag_none, bag_created, has_no_queue, fresh_child, Placed, plainly, create_what, child_of, with_child, next_pid, KernelState, turned, KnownStands, ◌<◌, IsValid}
 use Rattle.dm_mirror.proofs.Names.{manager, switchboard, plain_process, is_server, WhatFits, is_fixed, can_handle, OwnTold, Run, Mirrors, plainly_is, MadeStands, AllOwnStand, KernelStands, nat_le, times, begun, Unknown}
 use Rattle.dm_mirror.proofs.Names.{life_sort}
 use Rattle.dm_rulelaws.proofs.Names.{with_sent}

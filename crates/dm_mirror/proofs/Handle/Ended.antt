@@ -3,7 +3,7 @@ use Rattle.dm_mirror.proofs.Names.{◌≡◌, ℕ, true, List, [], ◌∷◌, re
 use Rattle.dm_mirror.proofs.Names.{without_message, is_dropped, Point, times, Known, View, handled, bag_none, bag_gone, agrees, WhatFits, is_manager, dropped_is, Placed, plainly, user_what, read_what, write_what, block_what, stop_what}
 use Rattle.dm_mirror.proofs.Names.{resume_what, kill_what, written_what, gone_what, What, handles, process_handles, ended_handles, KernelState, Turned, turned, KnownStands, gone_is, ◌/◌, Bool, length, map, if◌then◌else◌, plain_kind}
 use Rattle.dm_mirror.proofs.Names.{PlainMessage, arith, nat_tests, Process, Alive, Life, OneKernel, plain_process, PlainProcess, pid_eq-same, blocks_of, alive_of, served_is, of_map, with_queue, here_handles, with_here, AreMessages}
-use Rattle.dm_mirror.proofs.Names.{is_server, pid_eq, false, begun, Outcome, move_what, here_free, sort_of, Ended, is_alive, ◌||◌, Inbox, is_fixed, subst, told_receiver}
+use Rattle.dm_mirror.proofs.Names.{is_server, pid_eq, false, begun, Outcome, move_what, here_free, sort_of, Ended, is_alive, Inbox, is_fixed, subst, told_receiver}
 use Rattle.dm_rulelaws.proofs.Names.{with_sent}
 use Rattle.dm_mirror.proofs.Recorded.{recorded, recorded_process}
 use Rattle.dm_mirror.proofs.Residents.{here_process, not_board, not_manager, resident_same, same_manager}

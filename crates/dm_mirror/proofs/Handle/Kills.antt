@@ -1,9 +1,9 @@
 -- A process that is here is killed: its queue is dropped, message by message, and its predecessors are told.
-use Rattle.dm_mirror.proofs.Names.{◌≡◌, ◌≢◌, ℕ, ◌+◌, ◌/◌, ◌≤◌, ◌<◌, ◌==◌, ◌&&◌, Bool, true, false, List, [], ◌∷◌, ◌++◌, length, map, refl, ap, ◌∙◌, sym, subst, is_some, arith, if◌then◌else◌, slice_get, Option, None, Some, false≢true}
+use Rattle.dm_mirror.proofs.Names.{◌≡◌, ◌≢◌, ℕ, ◌+◌, ◌/◌, ◌≤◌, ◌<◌, ◌==◌, ◌&&◌, Bool, true, false, List, [], ◌∷◌, ◌++◌, length, map, refl, ap, ◌∙◌, sym, subst, is_some, arith, if◌then◌else◌, slice_get, Option, None, Some}
 use Rattle.dm_mirror.proofs.Names.{nat_tests, Pid, pid_eq, MsgId, Message, plain_message, Record, Label, Line, Taken, Boot, Why, OneKernel, with_process, bind, plain_process, without_message, pid_eq-same, out_off, Point, after, moved, Room}
 use Rattle.dm_mirror.proofs.Names.{blocks_of, taken_at, taken_by, takes_room, without, without_front, Spot, Queue, Held, Inbox, times, standing, Known, View, after_label, handled, stands_right, served_is, droppable_on, Placed, with_queue}
-use Rattle.dm_mirror.proofs.Names.{plainly, kill_what, room_of, here_handles, KernelState, turned, KnownStands, RoomStands, told_there, mirrors_view, zero, suc, ◌||◌, nat_le, nat_lt, pid_of, PlainLink, What, PlainMessage, PlainWhat}
-use Rattle.dm_mirror.proofs.Names.{free_slots, free_blocks, answer, BootImage, BootMachine, first_number, images_are_valid, image_is_valid, when, answer_id, answer_to, bag_none, bag_no_space, is_server, home_of, create_what, handles, makes}
+use Rattle.dm_mirror.proofs.Names.{plainly, kill_what, room_of, here_handles, KernelState, turned, KnownStands, RoomStands, told_there, mirrors_view, zero, suc, nat_le, nat_lt, pid_of, PlainLink, What, PlainMessage, PlainWhat}
+use Rattle.dm_mirror.proofs.Names.{free_slots, free_blocks, answer, BootImage, BootMachine, images_are_valid, image_is_valid, when, answer_id, answer_to, bag_none, bag_no_space, home_of, create_what, handles, makes}
 use Rattle.dm_mirror.proofs.Names.{and-both, Says, told_receiver, user_what, queued, with_here, begun, Part, StandsRight, Ended, without_preds, rule_to_kernels, nobody, MessageKind, cases_Bool, id_eq, id_of, inl, inr, pid_eq-is}
 use Rattle.dm_rulelaws.proofs.Names.{with_sent}
 use Rattle.dm_mirror.proofs.Leave.Asks.{room_stays}
@@ -32,7 +32,7 @@ pub use Rattle.dm_mirror.proofs.Deliver.Moves.{messages_push as last_message}
 use Rattle.dm_kernel.specs.Burying as burying
 use Rattle.dm_mirror.proofs.Preds.{forgotten_stand, none_kept, others_kept}
 use Rattle.dm_mirror.proofs.Residents.{resident_same, same_manager, same_system}
-use Rattle.dm_mirror.proofs.Names.{AreMessages, Resident, resident_at}
+use Rattle.dm_mirror.proofs.Names.{AreMessages, Resident, resident_at, none_some}
 use Rattle.dm_mirror.proofs.Buries.{absent_from, bury_messages, buries_may, machine_buries, many_buries, preds_are, rule_buries, untold_from}
 pub use Rattle.dm_places.proofs.Any.AnyGroup.{no_server as child_off}
 
@@ -278,7 +278,7 @@ no_room_row b m pt l k y image ls g c num found none =
     })
 
 pub valid_at : (images : List BootImage) (n : ℕ) (g : BootImage) → slice_get images n ≡ Some g → images_are_valid images ≡ true → image_is_valid g ≡ true
-valid_at [] n g e h = cc
+valid_at [] n g e h = none_some g e
 valid_at (x ∷ xs) zero g e h = let f : x ≡ g = cc in sym (ap image_is_valid f) ∙ (and-both (image_is_valid x) (images_are_valid xs) h).0
 valid_at (x ∷ xs) (suc n) g e h = valid_at xs n g e (and-both (image_is_valid x) (images_are_valid xs) h).1
 

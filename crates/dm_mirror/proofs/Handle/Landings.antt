@@ -3,7 +3,7 @@ use Rattle.dm_mirror.proofs.Names.{◌≡◌, ℕ, ◌+◌, ◌≤◌, ◌==◌,
 use Rattle.dm_mirror.proofs.Names.{What, id_of, plain_kind, Label, Reply, PlainMessage, PlainWhat, plain_message, plain_what, Process, Direction, Status, Landed, Rest, Landing, plain_landed, ends_plainly, goes_on_plainly, length-written}
 use Rattle.dm_mirror.proofs.Names.{Boot, Alive, OneKernel, bind, piece_of, written_at, plain_process, plain_status, PlainProcess, counts, is_counted, unentered, lands-is, counts_process, not_server, bind-is, Routes, Point, View, bag_none}
 use Rattle.dm_mirror.proofs.Names.{both, Placed, after_landing, parts, lands_match, with_queue, plainly, block_what, written_what, gone_what, here_handles, KernelState, take, drop, after_serving, answer, answer_of, answer_with}
-use Rattle.dm_mirror.proofs.Names.{serving_answer, answer_id, answer_to, bag_served, served_id, has_bytes, WhatFits, answers_match, read_what, write_what, stop_what, resume_what, sort_of, some_is}
+use Rattle.dm_mirror.proofs.Names.{serving_answer, answer_id, answer_to, bag_served, served_id, has_bytes, WhatFits, answers_match, read_what, write_what, stop_what, resume_what, sort_of, some_is, none_some}
 use Rattle.dm_rule.proofs.Names.{Part}
 use Rattle.dm_mirror.proofs.Handle.Taking.{Taking, sane_of}
 use Rattle.dm_mirror.proofs.Turning.{Row}
@@ -59,16 +59,16 @@ lands_what_of here p x Direction.IntoArea owner base own left w PlainWhat.Gone c
     let r : Rest = record { dir = Direction.IntoArea; owner = owner; base = base; own = own; left = left } in
     let f : pieces.done Reply.Gone (plain_process x) ≡ c = cc in
     record { d = landing.done Reply.Gone x; lands = ap (landing.lands_what here x r Direction.IntoArea) (gone_what w is); plain = ends_plainly Reply.Gone x ∙ ap Some f; queue = refl; memory = refl }
-lands_what_of here p x dir owner base own left w u c is pid e = cc
+lands_what_of here p x dir owner base own left w u c is pid e = none_some c e
 
 lands_if : (here : ℕ) (p : Pid) (x : Process) (b : Bool) (dir : Direction) (owner : Addr) (base own left : ℕ) (w : What) (u : PlainWhat) (c : pieces.Landed) → plain_what w ≡ Some u → x.pid ≡ p
     → (if b then pieces.lands_what p (plain_process x) dir owner.pid base own left u else None) ≡ Some c → Lands p x (landing.lands_what here x (record { dir = dir; owner = owner; base = base; own = own; left = left }) dir w) c
 lands_if here p x true dir owner base own left w u c is pid e = lands_what_of here p x dir owner base own left w u c is pid e
-lands_if here p x false dir owner base own left w u c is pid e = cc
+lands_if here p x false dir owner base own left w u c is pid e = none_some c e
 
 lands_of : (here : ℕ) (p : Pid) (x : Process) (m : Message) (u : PlainWhat) (st : Status) (c : pieces.Landed) → plain_what m.what ≡ Some u → x.pid ≡ p → pieces.lands p (plain_process x) (plainly m u) (plain_status st) ≡ Some c → Lands p x (landing.landing here x m.what st) c
 lands_of here p x m u (Status.Moving dir owner base own left pending) c is pid e = lands_if here p x (m.id.n == pending) dir owner base own left m.what u c is pid e
-lands_of here p x m u _ c is pid e = cc
+lands_of here p x m u _ c is pid e = none_some c e
 
 -- a number that its sender doesn't count yet
 own_fresh : (b : Boot) (m : ℕ) (pt : Point) (l : Placed) (k : KernelState) (y : Message) (w : PlainWhat) (c : Taking b m pt l k y w) (p : Pid) (z : PlainProcess) → pt.kernel.processes p ≡ Some (Alive z) → pt.kernel.bag (id_of p z.sent) ≡ None

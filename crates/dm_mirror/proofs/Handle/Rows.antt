@@ -1,7 +1,7 @@
 -- A row of a turn that says one label, by which one process may go on, and sends at most one message.
 use Rattle.dm_mirror.proofs.Names.{◌≡◌, ◌≢◌, ℕ, ◌≤◌, ◌==◌, Bool, true, false, List, [], ◌∷◌, map, refl, ap, ◌∙◌, sym, subst, inl, inr, is_some, arith, if◌then◌else◌, Option, None, Some, cases_Bool, false≢true, Pid, pid_eq, MsgId, nat_tests}
 use Rattle.dm_mirror.proofs.Names.{Message, id_eq, PlainWhat, plain_message, Boot, Label, Life, OneKernel, id_eq-is, pid_eq-is, Line, Point, after, Taken, blocks_of, taken_by, takes_room, without_front, Spot, Queue, act_of, Held, Inbox}
-use Rattle.dm_mirror.proofs.Names.{times, standing, View, Here, handled, is_kernels, Phase, Rests, is_away, is_here, knows, rests_here, InPhases, is_server, StepNeeds, Placed, Mirrors, placed_step, mirrors_view, moves_label, plainly}
+use Rattle.dm_mirror.proofs.Names.{times, standing, View, Here, handled, is_kernels, Phase, Rests, is_away, is_here, knows, rests_here, InPhases, StepNeeds, Placed, Mirrors, placed_step, mirrors_view, moves_label, plainly}
 use Rattle.dm_mirror.proofs.Names.{placed_follows, handles, KernelState, KnownStands, resident_at, begun, seen, RoomStands, room_of, slice_get, taken_at, addresses_by, PredsStand}
 use Rattle.dm_places.specs.PlacedStep.{with_sent, without_message}
 use Rattle.dm_onekernel.specs.Step as kernel

@@ -1,9 +1,9 @@
 -- What the servers send has a plain meaning.
-use Rattle.dm_mirror.proofs.Names.{◌≡◌, ℕ, ◌+◌, ◌==◌, ◌||◌, Bool, true, false, List, [], ◌∷◌, ◌++◌, length, refl, ap, ◌∙◌, sym, subst, nat_lt, arith, if◌then◌else◌, option_map, Option, None, Some, false≢true, nat_tests, Pid, pid_eq, MsgId}
+use Rattle.dm_mirror.proofs.Names.{◌≡◌, ℕ, ◌+◌, ◌==◌, Bool, true, false, List, [], ◌∷◌, ◌++◌, length, refl, ap, ◌∙◌, sym, subst, nat_lt, arith, if◌then◌else◌, option_map, Option, None, Some, nat_tests, Pid, pid_eq, MsgId}
 use Rattle.dm_mirror.proofs.Names.{Message, Label, PlainMessage, PlainWhat, plain_message, Boot, switchboard, manager, Life, Manager, OneKernel, bind, plain_board, plain_request, control_link, Managing, at_home, plain_manager}
-use Rattle.dm_mirror.proofs.Names.{plain_pending, plain_created, plain_no_room, plain_pending_numbered, plain_user, counts, unentered, ServerSends, board_takes_lem, manager_takes_lem, Point, blocks_of, bag_none, is_server, IsPending}
+use Rattle.dm_mirror.proofs.Names.{plain_pending, plain_created, plain_no_room, plain_pending_numbered, plain_user, counts, unentered, ServerSends, board_takes_lem, manager_takes_lem, Point, blocks_of, bag_none, IsPending}
 use Rattle.dm_mirror.proofs.Names.{WhatFits, StepNeeds, Placed, MirrorsKernel, board_took, manager_took, of_map, parts, plainly, user_what, created_what, no_room_what, handles, KernelState, AreMessages, Board, HereStands, Known, KnownStands, Record, Resident, handled, pid_eq-same, resident_at}
-use Rattle.dm_mirror.proofs.Names.{turned, pending_is, is_some, Link, ◌≢◌, begun, code_of_outcome, PendingKind, moved_what, plain_moved, Switchboard, Pending}
+use Rattle.dm_mirror.proofs.Names.{turned, pending_is, is_some, Link, begun, code_of_outcome, PendingKind, moved_what, plain_moved, Switchboard, Pending}
 use Rattle.dm_rule.proofs.Names.{Part}
 pub use Rattle.dm_places.proofs.Frames.{kept_processes as placed_processes}
 use Rattle.dm_onekernel.specs.Kernel as kernels

@@ -3,7 +3,7 @@ use Rattle.dm_mirror.proofs.Names.{◌≡◌, ◌≢◌, ℕ, ◌+◌, ◌≤◌
 use Rattle.dm_mirror.proofs.Names.{nat_tests, PlainMessage, PlainWhat, plain_message, plain_what, Boot, IsValid, Label, OneKernel, bind, Step, entry, reception, after_step, id_eq-is, id_eq-same, Point, outcome, Spot, Queue, Held, Inbox}
 use Rattle.dm_mirror.proofs.Names.{times, standing, StandsAsBag, StandsNowhere, StandsOutside, StandsRight, is_kernels, stands_right, kernels_fresh, not_kernels, Sane, StandsAsBag-elsewhere, StandsAsBag-one, front, OwnTold, IsQueued, Run}
 use Rattle.dm_mirror.proofs.Names.{Front, Placed, Mirrors, MirrorsKernel, parts, there_of, plainly, plainly_is, handles, KernelState, Turned, turns, MadeStands, AllOwnStand, AreMessages, KernelStands, ◌==◌, ◌&&◌, [], slice_get, pid_eq}
-use Rattle.dm_mirror.proofs.Names.{room_of, pid_eq-is, taken_at, at_machine, at_record, Known, is_server, KnownStands, RoomStands, ◌||◌, length, switchboard, manager, kernel_handles, board_handles, manager_handles, resident_at}
+use Rattle.dm_mirror.proofs.Names.{room_of, pid_eq-is, taken_at, at_record, Known, is_server, KnownStands, RoomStands, ◌||◌, length, switchboard, manager, kernel_handles, board_handles, manager_handles, resident_at}
 use Rattle.dm_mirror.proofs.Names.{process_handles, not_true, PlainProcess, KernelKnown, ended_handles, PredsStand, Board, Managing, Record, Resident}
 pub use Rattle.dm_rulelaws.proofs.Goes.Process.{no_server}
 use Rattle.dm_rule.proofs.Names.{Part}

@@ -1,6 +1,6 @@
 -- A move has ended: whoever asked for it is told.
 use Rattle.dm_mirror.proofs.Names.{turns, ◌≡◌, ◌≢◌, ℕ, ◌+◌, ◌≤◌, true, false, [], ◌∷◌, refl, ap, ◌∙◌, sym, subst, inl, inr, arith, Option, None, Some, option_map, cases_Bool, false≢true, Pid, pid_eq, pid_eq-is, Message, MsgId, id_eq}
-use Rattle.dm_mirror.proofs.Names.{plain_message, Record, Label, Line, Process, Boot, OneKernel, Step, bind, answer_id, bag_none, Point, View, Told, Of, Here, Known, Spot, Queue, Held, Inbox, standing, times, is_between, is_server, after}
+use Rattle.dm_mirror.proofs.Names.{plain_message, Record, Label, Line, Process, Boot, OneKernel, Step, bind, answer_id, bag_none, Point, View, Told, Of, Here, Known, Spot, Queue, Held, Inbox, standing, times, is_between, after}
 use Rattle.dm_mirror.proofs.Names.{after_line, moved, at_machine, outcome, Run, Placed, Mirrors, placed_step, StepNeeds, KernelState, AllOwnStand, KernelStands, KnownStands, HereStands, RoomStands, AllRecords, TokensStand, room_of}
 use Rattle.dm_mirror.proofs.Names.{slice_get, Asker, Outcome, manager_request, moved_answer, MoveNote, bag_answered, plain_note, ends_move, without_note, Part, tells_asker, LeftStands, is_due_piece}
 use Rattle.dm_onekernel.specs.Service as service

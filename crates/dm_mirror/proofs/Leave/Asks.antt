@@ -4,7 +4,7 @@ use Rattle.dm_mirror.proofs.Names.{nat_tests, MsgId, What, MessageKind, Record, 
 use Rattle.dm_mirror.proofs.Names.{turned, pid_eq-is, pid_eq-same, to_kernel, Point, moved, Room, taken_by, takes_room, at_machine, at_record, without, without_front, times, Here, Frozen, Known, Of, own_id, target_of}
 use Rattle.dm_mirror.proofs.Names.{has_nothing_held, is_fixed, Placed, mirrors_view, told_of, KnownStands, LeavesStand, RoomStands, AllRecords, eq_not, option_map, Option, Addr, pid_of, kind_of, plain_what, with_what}
 use Rattle.dm_mirror.proofs.Names.{frozen_of, incoming_of, Departure, block_of, chunk_of, state_of, OneKernel, bind, gives_piece, kernel_handles, Addresses, Receiver, Sender, gets, own_given, unmoved, told_step, is_between}
-use Rattle.dm_mirror.proofs.Names.{tells_onward, fits, free_room, kernel_hears, Inbox, standing, Told, View, after_proto, handled, Run, enclosed, about_of, Carries, destination_of, false≢true, ◌++◌, turn, outcome, after, Step}
+use Rattle.dm_mirror.proofs.Names.{tells_onward, fits, free_room, kernel_hears, Inbox, standing, Told, View, after_proto, handled, enclosed, about_of, Carries, destination_of, false≢true, ◌++◌, turn, outcome, after, Step}
 use Rattle.dm_mirror.proofs.Names.{plain_message, HereStands, Mirrors, AreMessages, Spot, Queue, Held, spot_cases, Asker, leaves_for, here_free, Part, sort_of, drop, slice_get, option_and_then, Cargo, cargo_at, cargo_of, ◌⊎◌, ◌||◌}
 use Rattle.dm_mirror.proofs.Names.{cases_Bool, receiver_in, LeftCarries, is_due_piece, is_piece, brings_piece, pulls_piece, is_waited_from, with_sent, buried, tells_end, is_stale}
 use Rattle.dm_mirror.proofs.Recorded.{Recorded, recorded}

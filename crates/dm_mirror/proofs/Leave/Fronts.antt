@@ -2,7 +2,7 @@
 use Rattle.dm_mirror.proofs.Names.{◌≡◌, ◌≢◌, ◌⊎◌, ℕ, ◌+◌, ◌≤◌, ◌==◌, Bool, true, false, List, ◌∷◌, ap, ◌∙◌, sym, subst, inl, inr, arith, if◌then◌else◌, Option, None, Some, eqb_tells, Pid, pid_of, Message, MsgId, kind_of, plain_message}
 use Rattle.dm_mirror.proofs.Names.{bind, Boot, Step, handles, KernelState, Turned, turns, id_eq-same, is_apart, is_between, tells_onward, is_restart, knows, Moves, Phase, Rests, receiver_in, sender_in, token_in, Point, comes_to, hears}
 use Rattle.dm_mirror.proofs.Names.{outcome, Spot, Queue, Held, Inbox, Untaken, standing, times, Here, Frozen, Of, Told, View, is_kernels, letters, rests_here, token_at, StandsAsBag-one, StandsAsBag-elsewhere, spot_cases, OwnTold, Run}
-use Rattle.dm_mirror.proofs.Names.{Placed, Mirrors, AllOwnStand, about_of, told_of, AreMessages, KernelStands, AllRecords, TokensStand, eq_self, source_knows, inbox_is, more_front, holds_is, ◌||◌, [], refl, Addr, pid_eq, place_of}
+use Rattle.dm_mirror.proofs.Names.{Placed, Mirrors, AllOwnStand, about_of, told_of, AreMessages, KernelStands, AllRecords, TokensStand, eq_self, source_knows, inbox_is, more_front, holds_is, [], refl, Addr, pid_eq, place_of}
 use Rattle.dm_mirror.proofs.Names.{nat_tests, kernel_at, id_of, MessageKind, PlainMessage, process_handles, Gets, Receiver, Sender, gets, given, own_given, unmoved, process_told, kernel_hears, at_machine, Known, not_kernels, is_fixed}
 use Rattle.dm_mirror.proofs.Names.{enclosed, about_same, cases_Bool, pid_eq-is, sort_of, What, false≢true, LeftStands, is_due_piece, is_waited_from, told_here, resident_at}
 use Rattle.dm_mirror.proofs.Handle.Taking.{front_of, times_self, machine_self, machine_off, some_same}

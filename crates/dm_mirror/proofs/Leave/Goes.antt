@@ -1,6 +1,6 @@
 -- The messages that follow a process: the queue, then what was held.
 use Rattle.dm_mirror.proofs.Names.{◌≡◌, ◌≢◌, ℕ, ◌+◌, ◌/◌, ◌≤◌, ◌==◌, Bool, true, false, not, List, [], ◌∷◌, ◌++◌, length, map, is_some, refl, ap, ◌∙◌, sym, subst, inl, arith, if◌then◌else◌, option_map, Option, Some, false≢true, Pid}
-use Rattle.dm_mirror.proofs.Names.{nat_tests, pid_eq, kernel_at, Message, MsgId, What, MessageKind, Record, Wanted, Line, Stage, Process, Taken, with_released, frozen_of, incoming_of, all_sent_on, Boot, Life, bind, plain_process}
+use Rattle.dm_mirror.proofs.Names.{nat_tests, pid_eq, kernel_at, Message, MsgId, What, MessageKind, Record, Wanted, Line, Stage, Taken, with_released, frozen_of, incoming_of, all_sent_on, Boot, Life, bind, plain_process}
 use Rattle.dm_mirror.proofs.Names.{PlainProcess, without_leaving, KernelState, own, turned, pid_eq-same, sends_on, to_kernel, Point, moved, Room, blocks_of, taken_at, taken_by, takes_room, at_machine, Spot, Held, Inbox, Queue, standing}
 use Rattle.dm_mirror.proofs.Names.{times, Forward, Frozen, Known, gone_to, own_id, MirrorsPoint, sent_all, Placed, sent_on_mirrors, mirrors_view, MadeStands, told_of, AreMessages, KnownStands, RoomStands, AllRecords, Wants, ◌||◌, inr, None}
 use Rattle.dm_mirror.proofs.Names.{cases_Bool, id_eq, IsKindOfPlain, kind_of, PlainMessage, plain_message, plain_what, with_what, sent_on, id_eq-swap, is_between, Told, View, letters, held_plain, queued_plain, StandsAsBag-elsewhere, Run}

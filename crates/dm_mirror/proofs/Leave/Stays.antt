@@ -1,8 +1,8 @@
 -- What was to leave stays: it is served again, and what was held comes before the inbox.
 use Rattle.dm_mirror.proofs.Names.{◌≡◌, ◌≢◌, ◌⊎◌, ℕ, ◌≤◌, Bool, true, false, List, [], ◌∷◌, ◌++◌, map, nat_le, refl, ap, ◌∙◌, sym, subst, inl, inr, arith, if◌then◌else◌, Option, Some, nat_tests, Pid, pid_eq, Message, MsgId, What}
 use Rattle.dm_mirror.proofs.Names.{MessageKind, Record, Line, frozen_of, with_record, Boot, bind, stays, KernelState, pid_eq-same, Point, moved, takes_room, at_machine, times, Here, Known, times-append, Placed, mirrors_view, told_of}
-use Rattle.dm_mirror.proofs.Names.{AreMessages, KnownStands, AllRecords, is_server, false≢true, ◌==◌, Moves, is_between, knows, Of, turned, Outcome, tells_asker, drop, kernel_handles, kernel_hears, kind_comes, kind_of, about_of}
-use Rattle.dm_mirror.proofs.Names.{tells_onward, is_restart, sort_of, told_step, PlainProcess, plain_process, fits, free_room, length, ◌/◌, is_piece, is_waited_from, ◌<◌, option_and_then, slice_get, with_pred, at_record, calls_back}
+use Rattle.dm_mirror.proofs.Names.{AreMessages, KnownStands, AllRecords, ◌==◌, Moves, is_between, knows, Of, turned, Outcome, drop, kernel_handles, kernel_hears, kind_comes, kind_of, about_of}
+use Rattle.dm_mirror.proofs.Names.{tells_onward, is_restart, sort_of, told_step, fits, free_room, length, is_piece, is_waited_from, ◌<◌, option_and_then, slice_get, with_pred, at_record, calls_back}
 use Rattle.dm_mirror.proofs.Names.{front_of, front_told, is_calloff, with_caller, PredsStand}
 use Rattle.dm_mirror.proofs.Leave.Answered.{ends_move_row}
 use Rattle.dm_mirror.proofs.Rooms.{taken_same}

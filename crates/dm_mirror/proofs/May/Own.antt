@@ -5,7 +5,7 @@ use Rattle.dm_mirror.proofs.Names.{Run, Placed, Mirrors, FitsBoard, FitsHere, Fi
 use Rattle.dm_mirror.proofs.Names.{pid_eq, PlainMessage, PlainWhat, plain_what, Direction, Status, IsAnswerOf, IsAwaited, IsWithin, Life, Alive, piece_of, plain_process, plain_status, pid_eq-same, Known, WhatFits, awaits, has_bytes}
 use Rattle.dm_mirror.proofs.Names.{piece_fits, status_awaits, both, block_what, gone_what, kill_what, read_what, resume_what, stop_what, user_what, write_what, written_what, inl, inr, zero, suc, ◌/◌, is_some, if◌then◌else◌, option_map}
 use Rattle.dm_mirror.proofs.Names.{cases_Bool, pid_of, HasTaken, first_number, alive-is, blocks_of, taken_at, taken_by, taken_of_home, takes_room, IsLawfulState, of_known, MadeStands, [], map, plain_manager, IsForManager, pending_request}
-use Rattle.dm_mirror.proofs.Names.{OneKernel, front, ForWhom, for_whom, home_of, create_what, created_what, no_room_what, FitsKernel, managed_fits, user_fits, PendingKind, move_what, moved_what, IsPending, Pending, FitsEnded, or-left}
+use Rattle.dm_mirror.proofs.Names.{OneKernel, front, ForWhom, for_whom, home_of, create_what, created_what, no_room_what, FitsKernel, managed_fits, user_fits, PendingKind, move_what, moved_what, IsPending, Pending, FitsEnded}
 use Rattle.dm_mirror.proofs.Names.{or-right}
 use Rattle.dm_kernel.specs.May.{FitsResident, MayAct, MayFreeze}
 use Rattle.dm_resident.specs.Lawful.{HasFewAddresses, IsLawfulResident}

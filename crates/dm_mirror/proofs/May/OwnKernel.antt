@@ -1,9 +1,9 @@
 -- A kernel's own message at the front of another kernel's inbox is one that this kernel can handle: a process is leaving or
 -- coming, and the message carries what is asked for.
 use Rattle.dm_mirror.proofs.Names.{◌≡◌, ℕ, ◌/◌, ◌≤◌, ◌==◌, ◌&&◌, not, Bool, true, false, length, refl, ap, ◌∙◌, sym, subst, arith, if◌then◌else◌, length-map, Option, Some, false≢true, All-nil, Pid, Message, MsgId, What, MessageKind, Record}
-use Rattle.dm_mirror.proofs.Names.{kind_of, IsLawfulMessage, Process, IsLawfulProcess, frozen_of, incoming_of, Arrival, CanMove, Departure, Resident, resident_at, IsValid, restarted, nat_le, HasTaken, HasBlock, HasChunk, state_of, Boot, Moves, kind_comes, is_away, is_between}
-use Rattle.dm_mirror.proofs.Names.{is_early, tells_onward, is_restart, kind_leaves, receiver_in, sender_in, Point, Inbox, standing, Known, Frozen, Incoming, Of, Told, token_at, is_server, Run, Placed, IsSuch, KernelState, about_of}
-use Rattle.dm_mirror.proofs.Names.{ComesStand, KernelStands, LeavesStand, Carries, TokensStand, Wants, destination_of, eq_self, apart_is, inbox_is, ◌<◌, ◌||◌, [], IsSome, Chunk, Block, Nothing, IsNextPiece, block_of, chunk_of, coming}
+use Rattle.dm_mirror.proofs.Names.{kind_of, IsLawfulMessage, Process, frozen_of, incoming_of, Arrival, CanMove, Departure, Resident, resident_at, IsValid, restarted, nat_le, HasTaken, HasBlock, HasChunk, state_of, Boot, Moves, kind_comes, is_away, is_between}
+use Rattle.dm_mirror.proofs.Names.{is_early, tells_onward, is_restart, kind_leaves, receiver_in, sender_in, Point, Inbox, standing, Known, Frozen, Incoming, Of, Told, token_at, Run, Placed, IsSuch, KernelState, about_of}
+use Rattle.dm_mirror.proofs.Names.{ComesStand, KernelStands, LeavesStand, Carries, TokensStand, Wants, destination_of, eq_self, apart_is, inbox_is, ◌<◌, [], IsSome, Chunk, Block, Nothing, IsNextPiece, block_of, chunk_of, coming}
 use Rattle.dm_mirror.proofs.Names.{by_pieces, takes_room, own_sort, Mirrors, FitsKernel, MayLeave, MayRestart, MadeStands, nat_tests, Asker, sort_of, List, Cargo, CanBeCarried, cargo_at, cargo_of, ask_for, IsIn, cases_Bool, inl, inr}
 use Rattle.dm_mirror.proofs.Names.{LeftCarries, is_due_piece, is_expected, pulls_piece, is_calloff, is_waited_from, ◌+◌}
 use Rattle.dm_resident.specs.Residents as residents

@@ -1,5 +1,5 @@
 -- A machine's kernel that stands for a point may take a turn.
-use Rattle.dm_mirror.proofs.Names.{◌≡◌, ℕ, ◌<◌, ◌==◌, true, false, List, [], ◌∷◌, map, refl, ap, ◌∙◌, sym, subst, arith, All, Option, None, Some, nat_tests, All-head, Pid, pid_eq, Message, MsgId, IsLawfulMessage, PlainMessage}
+use Rattle.dm_mirror.proofs.Names.{◌≡◌, ℕ, ◌<◌, ◌==◌, true, false, List, [], ◌∷◌, map, refl, ap, ◌∙◌, sym, subst, arith, All, Option, None, Some, nat_tests, All-head, Pid, Message, MsgId, IsLawfulMessage, PlainMessage}
 use Rattle.dm_mirror.proofs.Names.{plain_message, Boot, IsValid, Point, OwnTold, Run, for_whom, Placed, Mirrors, IsLawfulState, FitsKnown, FrontMay, MayHandle, MayTurn, KernelState, MadeStands}
 use Rattle.dm_mirror.proofs.Names.{KernelStands, AllOwnStand, TokensStand, ◌+◌, ◌≤◌}
 use Rattle.dm_mirror.proofs.May.Own.{own_front, own_row, front_row, may_act, FrontSo, front_so, kernel_create, kernel_row}

@@ -4,7 +4,7 @@ use Rattle.dm_mirror.proofs.Names.{◌≡◌, ℕ, ◌≤◌, Bool, true, false,
 use Rattle.dm_mirror.proofs.Names.{nat_tests, plain_message, incoming_of, Boot, bind, id_eq-is, id_eq-same, first_gives, own_given, is_between, Point, Spot, standing, Of, Told, View, after_put, first_told, is_kernels, put_at, put_spots}
 use Rattle.dm_mirror.proofs.Names.{PairsFit, put_told_off, Sane, plain_not, Placed, Mirrors, KeepsPlaces, lines_keep, routed_keeps, told_keeps, own_put_mirrors, WorldState, AllOwnStand, OwnStands, told_of, History, StandsWith, AllRecords}
 use Rattle.dm_mirror.proofs.Names.{Carries, TokensStand, destination_of, first_none, length, ◌⊎◌, at_machine, is_full, routes, Acted, Goes, Worn, spoken, Line, Load, Stage, OneKernel, Addresses, given, moved, at_id, About, sort_of, ◌≢◌}
-use Rattle.dm_mirror.proofs.Names.{◌<◌, ◌==◌, List, ◌∷◌, map, drop, slice_get, Record, Departure, Arrival, KernelState, room_of, NodeState, Known, Unknown, Here, Frozen, Incoming, Forward, AreMessages, ComesStand, HereStands}
+use Rattle.dm_mirror.proofs.Names.{◌<◌, List, ◌∷◌, map, drop, slice_get, Record, Departure, Arrival, KernelState, room_of, NodeState, Known, Unknown, Here, Frozen, Incoming, Forward, AreMessages, ComesStand, HereStands}
 use Rattle.dm_mirror.proofs.Names.{KernelStands, KnownStands, LeavesStand, NodeStands, PairStands, RoomStands, Resident, Managing, resident_at, CanBeCarried, IsSuch, cargo_at}
 use Rattle.dm_places.specs.PlacedStep.{with_message}
 pub use Rattle.dm_rulelaws.proofs.Based.Queues.{told_kept as told_stays}

@@ -4,7 +4,7 @@ use Rattle.dm_mirror.proofs.Names.{pid_eq, plain_link, Message, MsgId, What, Rec
 use Rattle.dm_mirror.proofs.Names.{bind, when, Life, Alive, OneKernel, plain_process, plain_status, PlainProcess, receive_refusals, first_failed, length-written, Completion, plain_completed, status_plainly, id_eq-is, pid_eq-same, Point}
 use Rattle.dm_mirror.proofs.Names.{moved, moved_back, without_id, Spot, Queue, times, standing, StandsRight, View, serving, once_at, set_at, Placed, Ends, completed_matches, with_queue, KernelState, turned, with_here, AreMessages, not}
 use Rattle.dm_mirror.proofs.Names.{is_some, option_map, pid_of, status_is_runnable, pid_eq-is, Phase, Rests, knows, stands_right, letter_of, InPhases, rests_here, rings, both, Run, queue_drops, Mirrors, mirrors_view, IsLawfulState}
-use Rattle.dm_mirror.proofs.Names.{of_known, resident_at, AllOwnStand, Resident, MadeStands, KernelStands, Part, here_free, at_hand_of, IsValid}
+use Rattle.dm_mirror.proofs.Names.{of_known, resident_at, AllOwnStand, Resident, MadeStands, KernelStands, Part, here_free, at_hand_of, IsValid, none_some}
 use Rattle.dm_syscall.specs.Completing.{IsAwaited}
 use Rattle.dm_onekernel.specs.Receiving as receiving
 use Rattle.dm_onekernel.specs.Service as service
@@ -181,7 +181,7 @@ first_if records q qs p false e f more =
     record { stands = (let least = h.stands in let all : rings p qs ≤ rings p (q ∷ qs) = omega arith in omega (arith, least, all)); goes = h.goes }
 
 first_is : (records : Pid → Option machine.KernelKnown) (ps : List Pid) (p : Pid) → turn.first_runnable records ps ≡ Some p → Runnable records ps p
-first_is records [] p e = cc
+first_is records [] p e = none_some p e
 first_is records (q ∷ qs) p e = first_if records q qs p (turn.known_is_runnable (records q)) refl e (first_is records qs p)
 
 pub away_elsewhere : (v : View) (m : ℕ) (p : Pid) → InPhases v → v.known m p ≡ view.Here → IsAway v m p

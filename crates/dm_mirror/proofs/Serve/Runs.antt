@@ -2,8 +2,8 @@
 use Rattle.dm_mirror.proofs.Names.{◌≡◌, ℕ, zero, suc, ◌+◌, ◌<◌, ◌≤◌, ◌&&◌, Bool, true, false, List, [], ◌∷◌, map, refl, ap, ◌∙◌, sym, subst, inl, inr, arith, is_some, if◌then◌else◌, option_map, Option, None, Some, cases_Bool, nat_tests}
 use Rattle.dm_mirror.proofs.Names.{false≢true, Pid, Message, MsgId, Record, Halt, id_eq, plain_message, plain_what, with_what, Regs, Fault, Row, instruction, first_on, is_on, what_is_on, without_first_on, status_is_runnable, Process}
 use Rattle.dm_mirror.proofs.Names.{Status, Boot, bind, Life, Alive, OneKernel, plain_process, plain_status, PlainProcess, Machine, pid_eq-same, id_eq-is, id_eq-same, Point, without_id, times, is_server, rings, Placed, MirrorsKernel}
-use Rattle.dm_mirror.proofs.Names.{with_queue, KernelState, AreMessages, KnownStands, KernelStands, ◌==◌, pid_eq, Label, Why, out_off, Line, moved, after, without_front, Spot, Queue, Inbox, standing, View, handled, dropped_for, receiver_of}
-use Rattle.dm_mirror.proofs.Names.{Droppable, droppable_on, dropped_is, Mirrors, Resident, user_dropped, Part, option_map_or, drop, Ended}
+use Rattle.dm_mirror.proofs.Names.{with_queue, KernelState, AreMessages, KernelStands, ◌==◌, pid_eq, Label, Why, out_off, Line, moved, after, without_front, Spot, Queue, Inbox, standing, View, handled, dropped_for, receiver_of}
+use Rattle.dm_mirror.proofs.Names.{Droppable, droppable_on, dropped_is, Mirrors, Resident, user_dropped, Part, option_map_or, drop, Ended, none_some}
 use Rattle.dm_places.specs.PlacedStep.{without_message}
 use Rattle.dm_mirror.proofs.Kernel.Sets.{times_self, times_more, ViewLeaves, Leaves, view_leaves_on, leaves_on, view_same, view_queue, view_not_handled, kernel_same, kernel_out, placed_same, placed_out, not_own_there, label_mirrors}
 use Rattle.dm_mirror.proofs.Kernel.Sets.{after_label}
@@ -77,9 +77,9 @@ found_if l mask i is n m ns true on name there are e more = let k : n ≡ m = cc
 found_if l mask i is n m ns false off name there are e more = found_later l mask i is n m ns off there (more e)
 
 pub found : (l : Placed) (mask : ℕ) (ids : List MsgId) (ms : List Message) (m : Message) → Names l → AreMessages l.bag ids ms → first_on mask ms ≡ Some m → Found l mask ids ms m
-found l mask [] [] m names are e = cc
+found l mask [] [] m names are e = none_some m e
 found l mask [] (n ∷ ns) m names are e = absurd (let f : [] ≡ map Some (n ∷ ns) = are in cc)
-found l mask (i ∷ is) [] m names are e = cc
+found l mask (i ∷ is) [] m names are e = none_some m e
 found l mask (i ∷ is) (n ∷ ns) m names are e =
     let there : l.bag i ≡ Some n = cc in
     let rest : AreMessages l.bag is ns = cc in

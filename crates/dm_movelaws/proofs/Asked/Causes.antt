@@ -1,7 +1,7 @@
 -- The answer to a request to move follows at once on a line that is its cause.
 use Rattle.dm_movelaws.proofs.Names.{◌≡◌, Bool, true, false, List, [], ◌∷◌, ◌++◌, length, refl, ap, ◌∙◌, sym, subst, inl, inr, cases_Bool, false≢true, if◌then◌else◌, Option, None, Some, Pid, pid_eq, pid_eq-is, MsgId, Outcome, MoveNote}
 use Rattle.dm_movelaws.proofs.Names.{PlainMessage, Boot, IsValid, Label, Line, Step, Told, View, Point, Part, Says, Routes, Spelled, spelled, group_of, group_is, answers_move, LeadsBy, Both, both_start, both_group, run_start, run_group}
-use Rattle.dm_movelaws.proofs.Names.{Run, begun, receiver_of, append_assoc, answer_id, AnswersHaveCauses, HasCause, IsCause, is_answer_by, letter_of, act_of, arith}
+use Rattle.dm_movelaws.proofs.Names.{Run, begun, receiver_of, append_assoc, answer_id, AnswersHaveCauses, HasCause, IsCause, is_answer_by, letter_of, act_of, arith, none_some}
 use Rattle.dm_movelaws.proofs.Leading.{All, AllLines, Saying, parts_say, next_of}
 use Rattle.dm_movelaws.proofs.Ends.Sources.{Sources, group_acts}
 use Rattle.dm_movelaws.proofs.Ends.Always.{step_for}
@@ -46,7 +46,7 @@ abbrev NotesTold : Point → Type 0
 NotesTold pt = (p : Pid) (n : MoveNote) → pt.kernel.notes p ≡ Some n → (t : Told) × (pt.view.told n.id ≡ Some t) × (t.receiver ≡ p)
 
 told_as : (o : Option Told) (q : Pid) → receiver_of o ≡ Some q → (t : Told) × (o ≡ Some t) × (t.receiver ≡ q)
-told_as None q e = cc
+told_as None q e = none_some q e
 told_as (Some t) q e = (t, refl, cc)
 
 in_bag_told : (b : Boot) (pt : Point) → Run b pt → (i : MsgId) (m : PlainMessage) → pt.kernel.bag i ≡ Some m → (t : Told) × (pt.view.told i ≡ Some t) × (t.receiver ≡ m.to)
@@ -55,7 +55,7 @@ in_bag_told b pt h i m there =
     told_as (pt.view.told i) m.to (state.stands.told i m.to (letter_of state.r state.e state.own pt.kernel i m there state.sound))
 
 noted_none : (c : Bool) (o : Option MoveNote) (n : MoveNote) → (if c then None else o) ≡ Some n → o ≡ Some n
-noted_none true o n e = cc
+noted_none true o n e = none_some n e
 noted_none false o n e = e
 
 told_on : (pt : Point) (v : View) → Extends pt.view.told v.told → (i : MsgId) (p : Pid) → (t : Told) × (pt.view.told i ≡ Some t) × (t.receiver ≡ p) → (t : Told) × (v.told i ≡ Some t) × (t.receiver ≡ p)

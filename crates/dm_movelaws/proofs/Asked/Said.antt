@@ -2,7 +2,7 @@
 use Rattle.dm_movelaws.proofs.Names.{◌≡◌, ◌⊎◌, ℕ, ◌+◌, Bool, true, false, List, [], ◌∷◌, ◌++◌, length, refl, ap, ◌∙◌, sym, subst, inl, inr, take, drop, false≢true, Option, None, Some, Pid, MsgId, id_of, Label, OneKernel, PlainMessage}
 use Rattle.dm_movelaws.proofs.Names.{PlainWhat, Outcome, MoveNote, Line, first_point, without_note, without_message, with_sent, answer_id, answer_to, entry, reception, replay, bind-is, Sound, KernelFits, ServerSends, board_takes_lem}
 use Rattle.dm_movelaws.proofs.Names.{manager_takes_lem, lands-is, after_step, fits_step, by_step, append_assoc, append-nil, ascends, came, stayed, View, switchboard, manager, labels, label_of, with_label, after_replay, start, start-sound}
-use Rattle.dm_movelaws.proofs.Names.{first_view, arith, nat_tests, MovedIsSaid, IsSaidOf, note-is, Follows, start_fits}
+use Rattle.dm_movelaws.proofs.Names.{first_view, arith, nat_tests, MovedIsSaid, IsSaidOf, note-is, Follows, start_fits, none_some}
 use Rattle.dm_laws.proofs.Entered.{asks}
 use Rattle.dm_onekernel.specs.Pieces as pieces
 use Rattle.dm_onekernel.specs.Service as service
@@ -121,7 +121,7 @@ record LineOf (l : Label) (ls : List Line) : Type 0 where
 
 label_is : (x : Line) (l : Label) → label_of x ≡ Some l → x ≡ Line.Label l
 label_is (Line.Label k) l e = let f : k ≡ l = cc in ap Line.Label f
-label_is _ l e = cc
+label_is _ l e = none_some l e
 
 line_on : (x : Line) (ls : List Line) (l : Label) → LineOf l ls → LineOf l (x ∷ ls)
 line_on x ls l h = record { earlier = x ∷ h.earlier; later = h.later; is = ap (λ (ys : List Line). x ∷ ys) h.is }

@@ -1,8 +1,8 @@
 -- Where a process has ended no message is queued for it.
 use Rattle.dm_movelaws.proofs.Names.{◌≡◌, ◌⊎◌, ℕ, ◌≤◌, ◌==◌, Bool, true, false, List, [], ◌∷◌, ◌++◌, refl, ap, ◌∙◌, sym, subst, inl, inr, arith, cases_Bool, false≢true, nat_tests, ⊤, Option, None, Some, Pid, MsgId, Boot, Label, id_eq-same}
-use Rattle.dm_movelaws.proofs.Names.{Step, Line, Part, Says, Owns, Spelled, spelled, Point, moved, group_of, times, View, Told, Known, Here, view_after, handled, PlainMessage, IsValid, Leads, first_point, Spot, Queue, standing, StandsRight}
+use Rattle.dm_movelaws.proofs.Names.{Step, Line, Part, Says, Owns, Spelled, spelled, Point, moved, group_of, times, View, Told, Here, view_after, handled, PlainMessage, IsValid, Leads, first_point, Spot, Queue, standing, StandsRight}
 use Rattle.dm_movelaws.proofs.Names.{is_kernels, group_is, arrives_net, resends_net, stands_right, kernels_fresh, not_true, is_kill, plain_kind, says_next, DropsAlways, killed_or, Run, told_of, more_front, migrates, by_migrates, calls_off}
-use Rattle.dm_movelaws.proofs.Names.{OneKernel, is_away, by_calls_off, to_kernel, map, MessageKind, pid_eq, pid_eq-is, eq_is, hushed, served_told, life_sort, step_alike, step_ends, step_serves, SetLife, begins, has_no_queue, resting}
+use Rattle.dm_movelaws.proofs.Names.{OneKernel, is_away, by_calls_off, to_kernel, map, MessageKind, pid_eq, pid_eq-is, eq_is, hushed, served_told, life_sort, step_alike, step_ends, step_serves, SetLife, begins, resting}
 use Rattle.dm_movelaws.proofs.Names.{turned, Life, slice_get, own_id, ListsStand}
 use Rattle.dm_rule.specs.Rule as rule
 use Rattle.dm_rule.specs.Burying as bury

@@ -21,7 +21,6 @@ use Rattle.dm_movelaws.proofs.Ends.Open.{whole_due}
 use Rattle.dm_movelaws.proofs.Ends.Parts.{Somewhere, settled_same}
 use Rattle.dm_movelaws.proofs.Ends.Sources.{emptied_on}
 use Rattle.dm_rule.specs.Rule as rule
-use Rattle.dm_onekernel.specs.Step as kernel
 use Rattle.dm_rule.proofs.Phases.Answers.{brings_between}
 
 abbrev pub ComesOf : Pid → (pt : Point) → InPhases pt.view → Option (List Part) → Type 0

@@ -3,7 +3,7 @@ use Rattle.dm_movelaws.proofs.Names.{◌≡◌, ℕ, ◌<◌, ◌≤◌, ◌==�
 use Rattle.dm_movelaws.proofs.Names.{after_put, Point, Part, Spelled, spelled, group_of, group_is, IsNetLine, is_put, eq_is, touches, pair_same, taken_pair, put_at, PacketsKeep, put_told_off, begun, nat_tests, moved, About, ◌⊎◌, ◌∷◌, ◌++◌}
 use Rattle.dm_movelaws.proofs.Names.{ap, sym, inl, inr, if◌then◌else◌, None, cases_Bool, id_eq, id_eq-same, at_machine, at_record, Here, handled, handled_first, held_for, receiver_of, released, with_ring, knowing, Again, sends_on, Spot}
 use Rattle.dm_movelaws.proofs.Names.{Queue, Held, Inbox, Untaken, times, ids_at, standing, at_record_at, parts, eq_self, fits_put, fits_packet, one_of, handled_spots, held_spots, put_spots, put_there, put_spot, times-append, PairsFit, Sane}
-use Rattle.dm_movelaws.proofs.Names.{part_sane, pid_eq-is, last_there, fewer_record, Within, line_within}
+use Rattle.dm_movelaws.proofs.Names.{part_sane, pid_eq-is, last_there, fewer_record, Within, line_within, none_some}
 pub use Rattle.dm_rule.proofs.Moves.States.{again_told}
 use Rattle.dm_rule.specs.View as view
 use Rattle.dm_movelaws.proofs.Ends.Parts.{first_kept, Extends, told_by, packet_smooth, part_count, Somewhere, Smooth, Plain, smooth_trans, smooth_still, stands_as, stands_was, other_than as other_front}
@@ -83,7 +83,7 @@ smooth_moves picks v w i told was now spots = record {
 }
 
 held_there : (v : View) (i : MsgId) (o : Option Pid) (q : Pid) → o ≡ Some q → Somewhere (held_for v i o) i
-held_there v i None q e = cc
+held_there v i None q e = none_some q e
 held_there v i (Some r) q e = (Held v.acting r, subst (λ n. 1 ≤ n) (sym (ap (times i) (at_record_at v.held v.acting r (v.held v.acting r ++ i ∷ [])))) (last_there i (v.held v.acting r)))
 
 pub held_smooth : (picks : Told → Bool) (v : View) (i : MsgId) (is : List MsgId) (t : Told) → v.inbox v.acting ≡ i ∷ is → v.told i ≡ Some t → Smooth picks v (view_after v (Line.Held i))

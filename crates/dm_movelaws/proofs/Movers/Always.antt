@@ -3,7 +3,7 @@ use Rattle.dm_movelaws.proofs.Names.{◌≡◌, ℕ, ◌+◌, ◌==◌, true, fa
 use Rattle.dm_movelaws.proofs.Names.{PlainStatus, Moving, Life, Alive, OneKernel, answer_id, is_of_memory, replay, Step, Point, labels, entry, reception, is_piece, pending_of, after_step, Sound, bind-is, piece_fits, status_awaits, WhatFits}
 use Rattle.dm_movelaws.proofs.Names.{KernelFits, based_always, both, fits_step, group_replay, Based, HasEnded, HasPiece, MoversHavePieces, Spelled, group_of, InOrder, step_constant, ◌⊎◌, Bool, length, take, drop, inl, inr, ⊤, if◌then◌else◌}
 use Rattle.dm_movelaws.proofs.Names.{PlainLink, switchboard, manager, Reply, Why, with_process, with_sent, Called, Sends, answer_to, first_failed, without_message, ServerSends, board_takes_lem, manager_takes_lem, lands-is, by_step, Lives}
-use Rattle.dm_movelaws.proofs.Names.{Grown, stayed, came, Outcome, without_note, answers_piece, asks_piece, plain_kind, Ended}
+use Rattle.dm_movelaws.proofs.Names.{Grown, stayed, came, Outcome, without_note, answers_piece, asks_piece, plain_kind, Ended, none_some}
 use Rattle.dm_rulelaws.proofs.Names.{awaits}
 use Rattle.dm_movelaws.specs.Movers.{Moves}
 use Rattle.dm_rule.proofs.Names.{begun}
@@ -56,7 +56,7 @@ lands_what_sends p x Direction.FromArea owner base own left (PlainWhat.Block byt
 lands_what_sends p x Direction.IntoArea owner base own left PlainWhat.Written c e = search (if_lands, goes_on_sends)
 lands_what_sends p x Direction.FromArea owner base own left PlainWhat.Gone c e = let f : pieces.done Reply.Gone x ≡ c = cc in subst (LandsSends p) f tt
 lands_what_sends p x Direction.IntoArea owner base own left PlainWhat.Gone c e = let f : pieces.done Reply.Gone x ≡ c = cc in subst (LandsSends p) f tt
-lands_what_sends p x _ owner base own left w c e = cc
+lands_what_sends p x _ owner base own left w c e = none_some c e
 
 if_lands_what : (p : Pid) (x : PlainProcess) (b : Bool) (dir : Direction) (owner : Pid) (base own left : ℕ) (w : PlainWhat) (c : pieces.Landed) → (if b then pieces.lands_what p x dir owner base own left w else None) ≡ Some c → LandsSends p c
 if_lands_what p x b dir owner base own left w c e = grind (arith, nat_tests, lands_what_sends)
@@ -76,7 +76,7 @@ gone_says s id m v name there (PlainWhat.Write base bytes) is e h =
 gone_says s id m v name there (PlainWhat.Move machine) is e h =
     let f : PlainWhat.Moved Outcome.Ended ≡ v = cc in
     subst (λ (x : PlainWhat). AllSay (with_sent (without_message s id) (Some (answer_to m x)))) f (other_says (without_message s id) (answer_to m (PlainWhat.Moved Outcome.Ended)) refl (out_says s id h))
-gone_says s id m v name there _ is e h = cc
+gone_says s id m v name there _ is e h = none_some v e
 
 -- every step
 pub step_says : (r e : MsgId → ℕ) (s t : OneKernel) (l : Label) → kernel.step s l ≡ Some t → Sound r e s → KernelFits t → AllSay s → AllSay t

@@ -3,7 +3,7 @@ use Rattle.dm_movelaws.proofs.Names.{◌≡◌, ◌⊎◌, ℕ, ◌+◌, ◌<◌
 use Rattle.dm_movelaws.proofs.Names.{Pid, PlainLink, MsgId, id_of, plain_kind, PlainMessage, PlainWhat, manager, Label, Manager, Pending, OneKernel, with_sent, without_message, replay, entry, reception, after_step, ServerSends}
 use Rattle.dm_movelaws.proofs.Names.{manager_takes_lem, Sound, bind-is, ascends, View, still_pending, WhatFits, KernelFits, based_always, fits_step, group_replay, is_pending, HasOne, IsOfPending, PendingHasOne, PendingAscends, requests}
 use Rattle.dm_movelaws.proofs.Names.{Outcome, answer_id, sym, PendingKind, IsPending, asked_by, answered_by, sort_of, take, drop, pid_eq, bind, PlainProcess, Alive, answer_to, lands-is, not_server, by_step, is_served, MoveNote, Follows}
-use Rattle.dm_movelaws.proofs.Names.{note-is, without_note, id_eq-is, sent_off, id_eq-same, with_note, out_off, Switchboard}
+use Rattle.dm_movelaws.proofs.Names.{note-is, without_note, id_eq-is, sent_off, id_eq-same, with_note, out_off, Switchboard, none_some}
 use Rattle.dm_rulelaws.specs.Fits.{is_for}
 use Rattle.dm_laws.proofs.Entered.{asks}
 use Rattle.dm_onekernel.specs.Manager as manage
@@ -208,7 +208,7 @@ answer_kind s i m r (PlainWhat.Moved outcome) e fits is = ap answered_by (kind_i
 answer_kind s i m r _ e fits is = absurd (false≢true e)
 
 numbered_at : (n : ℕ) (xs : List Pending) (r : Pending) → manage.pending_numbered n xs ≡ Some r → r.n ≡ n
-numbered_at n [] r e = cc
+numbered_at n [] r e = none_some r e
 numbered_at n (x ∷ xs) r e = elim (cases_Bool (x.n == n)) [
   | inl same ↦
       let f : Some x ≡ Some r = sym (ap (λ (c : Bool). if c then Some x else manage.pending_numbered n xs) same) ∙ e in

@@ -6,7 +6,6 @@ use Rattle.dm_movelaws.proofs.Names.{Spot, ids_at, standing, times, sort_of, Mov
 use Rattle.dm_movelaws.proofs.Names.{is_waited_from, brings_piece, about_same, Queue, buried, preds_of, tells_end, bury_is}
 use Rattle.dm_rule.specs.View as view
 use Rattle.dm_rule.specs.Rule as rule
-use Rattle.dm_onekernel.specs.Step as kernel
 use Rattle.dm_movelaws.proofs.Names.{Size, size_of, is_server, moved}
 use Rattle.dm_movelaws.proofs.LastPieces.{last_chunk, state_stays, state_front, state_goes}
 use Rattle.dm_movelaws.proofs.Leading.{All}

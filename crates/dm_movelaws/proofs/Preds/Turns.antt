@@ -1,9 +1,9 @@
 -- A turn at a message at the front of an inbox: what each line that it brings about does to what machines know and to their predecessors.
-use Rattle.dm_movelaws.proofs.Names.{◌≡◌, ◌≢◌, ℕ, ◌+◌, ◌<◌, ◌==◌, ◌&&◌, ◌||◌, Bool, true, false, not, List, [], ◌∷◌, ◌++◌, length, refl, ap, ◌∙◌, sym, subst, inl, inr, arith, nat_tests, Option, None, Some, bind, cases_Bool, false≢true, Pid}
+use Rattle.dm_movelaws.proofs.Names.{◌≡◌, ◌≢◌, ℕ, ◌+◌, ◌<◌, ◌==◌, ◌&&◌, ◌||◌, Bool, true, false, not, List, [], ◌∷◌, ◌++◌, length, refl, ap, ◌∙◌, sym, subst, inl, inr, Option, None, Some, bind, cases_Bool, false≢true, Pid}
 use Rattle.dm_movelaws.proofs.Names.{pid_of, MsgId, MessageKind, Line, Stage, Told, View, About, Of, Target, Known, Unknown, Here, Frozen, Incoming, Forward, OneKernel, id_eq, id_eq-is, view_after, handled, handled_first, receiver_of}
 use Rattle.dm_movelaws.proofs.Names.{front_of, rejoins, gone_to, goes_back, at_record, own_id, Point, moved, Part, Says, to_kernel, sends_on, times, standing, ids_at, Spot, Queue, is_put, touches, PairsFit, sane_line, says_next, said}
 use Rattle.dm_movelaws.proofs.Names.{sort_of, is_between, is_calloff, kind_comes, kind_leaves, Phase, Moves, IsIn, sender_in, receiver_in, slice_get, option_and_then, parts, eq_is, eq_self, handled_spots, queued_spots, held_spots}
-use Rattle.dm_movelaws.proofs.Names.{forwarded_spots, queued_known, held_known, forwarded_known, proto_off, left_off, restarted_off, accepted_off, ◌⊎◌, aim, sets, at_record_at, id_eq-same, not_false, source_knows, destination_knows}
+use Rattle.dm_movelaws.proofs.Names.{forwarded_spots, queued_known, held_known, forwarded_known, proto_off, left_off, restarted_off, accepted_off, aim, sets, at_record_at, id_eq-same, not_false, source_knows, destination_knows}
 use Rattle.dm_movelaws.proofs.Names.{called_parts, about_same}
 use Rattle.dm_rule.specs.View as view
 use Rattle.dm_movelaws.proofs.Leading.{All, part_leads, next_of}

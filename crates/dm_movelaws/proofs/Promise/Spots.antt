@@ -7,7 +7,7 @@ use Rattle.dm_movelaws.proofs.Names.{one_of, PairsFit, served_keeps, serving_off
 use Rattle.dm_movelaws.proofs.Names.{received_spots, ended_off, nat_tests, About, Target, aim, about_off, after_step, Sound, bind-is, Addresses, Holder, Slot, Gets, gives, all_follow, first_gives, leads_to, updated, addresses_by, ascends}
 use Rattle.dm_movelaws.proofs.Names.{label_of, kernel_after, after_line, after, moved, hushed, put_at, put_told_off, gives_to, fills, Unfilled, first_kept, length, slice_get, Boot, IsValid, Leads, first_point, Trails, AddressesOn, is_made}
 use Rattle.dm_movelaws.proofs.Names.{is_moving, IsThere, unheld, called_off}
-use Rattle.dm_movelaws.proofs.Names.{is_server}
+use Rattle.dm_movelaws.proofs.Names.{is_server, none_some}
 use Rattle.dm_movelaws.proofs.LastPieces.{state_stays, state_goes}
 use Rattle.dm_rule.proofs.Moves.Sent.{sent_off}
 use Rattle.dm_movelaws.proofs.Promise.Slots.{not_given, step_pending, led_before}
@@ -240,7 +240,7 @@ called_stands v p n j h = elim (unheld_at v p j h.spot h.least) [
 
 -- the message itself is held
 held_by : (v : View) (i : MsgId) (o : Option Pid) (p : Pid) → o ≡ Some p → Stands (held_for v i o) i
-held_by v i None p e = cc
+held_by v i None p e = none_some p e
 held_by v i (Some q) p e =
     let f : times i ((held_for v i (Some q)).held v.acting q) ≡ times i (v.held v.acting q ++ i ∷ []) = ap (times i) (at_record_at v.held v.acting q (v.held v.acting q ++ i ∷ [])) in
     let g = times-append i (v.held v.acting q) (i ∷ []) in

@@ -1,14 +1,13 @@
 -- The groups of the rule by what they do with requests to move and with processes that move: none of it, or one of eight deeds.
 use Rattle.dm_rule.specs.Migrating.{Size, size_of}
 use Rattle.dm_movelaws.proofs.LastPieces.{last_chunk}
-use Rattle.dm_movelaws.proofs.Names.{is_server}
+use Rattle.dm_movelaws.proofs.Names.{is_server, none_some}
 use Rattle.dm_movelaws.proofs.Names.{◌≡◌, ◌⊎◌, ℕ, ◌==◌, Bool, true, false, List, [], ◌∷◌, ◌++◌, refl, ap, ⊤, inl, inr, if◌then◌else◌, Option, None, Some, Pid, MsgId, MessageKind, Outcome, Boot, PlainMessage, PlainWhat}
 use Rattle.dm_movelaws.proofs.Names.{Label, Line, Stage, Step, Told, About, Of, Known, Unknown, Here, Frozen, Incoming, Forward, Addresses, target_of, Point, Part, Says, Owns, bind, bind-is, to_kernel, forwards_on, leaves_for}
 use Rattle.dm_movelaws.proofs.Names.{answers_move, tells_asker, gives_piece, takes_chunk, takes_block, chunks_of, pieces_of, leaves, left_parts, sends_on, called_parts, told_step, updates, told_here, told_ended, process_told}
 use Rattle.dm_movelaws.proofs.Names.{buried, preds_of, tells_end, is_stale, ends_with, sort_of, plain_kind, manager, IsNetLine, IsNet, by_net, by_round, by_handles, by_forwards, by_migrates, by_calls_off, by_outcome}
 use Rattle.dm_movelaws.proofs.Names.{buries_kept, ends_kept, nat_tests, arith, kernel_hears, by_test, TurnsBack}
 use Rattle.dm_rule.proofs.Hearing.{given}
-use Rattle.dm_onekernel.specs.Step as kernel
 use Rattle.dm_rule.specs.Rule as rule
 use Rattle.dm_movelaws.proofs.Leading.{All}
 use Rattle.dm_movelaws.proofs.Ends.Parts.{is_migrate}
@@ -126,7 +125,7 @@ handles_deed b o m id msg ps there = by_handles (Deed o (Step.Turn m)) b o m id 
 -- what a kernel is told by another
 leaves_deed : (o : Point) (m : ℕ) (i : MsgId) (p : Pid) (ids : List MsgId) (k : Known) (ps : List Part) → leaves i p ids k ≡ Some ps → Deed o (Step.Turn m) ps
 leaves_deed o m i p ids (Frozen to) ps e = given (Deed o (Step.Turn m)) (left_parts i p ids to) ps (Mild (refl, sends_mild to ids (Says (Line.Migration Stage.Left p) ∷ to_kernel MessageKind.Restart i.from.home ∷ []) (refl, (refl, tt)))) e
-leaves_deed o m i p ids _ ps e = cc
+leaves_deed o m i p ids _ ps e = none_some ps e
 
 told_deed : (o : Point) (m : ℕ) (i : MsgId) (is : List MsgId) (t : Told) (p : Pid) (room : Bool × ℕ × ℕ) (x : Size) (k : MessageKind) (ps : List Part) → AtFront o (Step.Turn m) m i is t → t.about ≡ Of p → t.kind ≡ k → told_step o m i p room x (sort_of k) ≡ Some ps
     → Deed o (Step.Turn m) ps
@@ -157,7 +156,7 @@ told_deed o m i is t p room x MessageKind.Memory ps f about kind e =
     let next = Says (Line.Proto i) ∷ to_kernel MessageKind.PullBlock i.from.home ∷ [] in
     given D (takes_block i p (o.view.asked p == pieces_of x)) ps (by_test D (o.view.asked p == pieces_of x) last next (Mild (refl, (refl, tt))) (Mild (refl, (refl, tt)))) e
 told_deed o m i is t p room x MessageKind.AllTaken ps f about kind e = leaves_deed o m i p (o.view.queue m p ++ o.view.held m p) (o.view.known m p) ps e
-told_deed o m i is t p room x _ ps f about kind e = cc
+told_deed o m i is t p room x _ ps f about kind e = none_some ps e
 
 due_deed : (b : Boot) (o : Point) (m : ℕ) (i : MsgId) (is : List MsgId) (t : Told) (p : Pid) (stale : Bool) (ps : List Part) → AtFront o (Step.Turn m) m i is t → t.about ≡ Of p
     → (if stale then Some (Says (Line.Stale i) ∷ []) else bind (size_of o.kernel p) (λ x. told_step o m i p (rule.fits (rule.free_room b o m) x.blocks) x (sort_of t.kind))) ≡ Some ps → Deed o (Step.Turn m) ps
@@ -176,7 +175,7 @@ over_deed b o m i is t p false ps f about e = due_deed b o m i is t p (is_stale 
 
 kernel_deed : (b : Boot) (o : Point) (m : ℕ) (i : MsgId) (is : List MsgId) (t : Told) (a : About) (ps : List Part) → AtFront o (Step.Turn m) m i is t → t.about ≡ a → kernel_hears b o m i t.kind a ≡ Some ps → Deed o (Step.Turn m) ps
 kernel_deed b o m i is t (Of p) ps f about e = over_deed b o m i is t p (tells_end (sort_of t.kind)) ps f about e
-kernel_deed b o m i is t _ ps f about e = cc
+kernel_deed b o m i is t _ ps f about e = none_some ps e
 
 -- at a process or a server
 here_deed : (o : Point) (m : ℕ) (i : MsgId) (is : List MsgId) (t : Told) (k : MessageKind) (ps : List Part) → AtFront o (Step.Turn m) m i is t → t.kind ≡ k → o.view.known m t.receiver ≡ Here → told_here o m i t (sort_of k) ≡ Some ps → Deed o (Step.Turn m) ps
@@ -186,12 +185,12 @@ here_deed o m i is t MessageKind.Migrate ps f kind here e =
     let goes = leaves_for t.receiver (target_of (Some t)) in
     given D (if m == target_of (Some t) then stays else goes) ps (by_test D (m == target_of (Some t)) stays goes (Mild (refl, tt)) (Obeys m i is t f (ap is_migrate kind) here refl)) e
 here_deed o m i is t MessageKind.Update ps f kind here e = given (Deed o (Step.Turn m)) (updates o i t) ps (Mild (refl, tt)) e
-here_deed o m i is t _ ps f kind here e = cc
+here_deed o m i is t _ ps f kind here e = none_some ps e
 
 ended_deed : (o : Point) (m : ℕ) (i : MsgId) (k : MessageKind) (ps : List Part) → told_ended i (sort_of k) ≡ Some ps → Deed o (Step.Turn m) ps
 ended_deed o m i MessageKind.Migrate ps e = given (Deed o (Step.Turn m)) (Says (Line.NoMove i) ∷ []) ps (Mild (refl, tt)) e
 ended_deed o m i MessageKind.Update ps e = given (Deed o (Step.Turn m)) (Says (Line.Updated i 0) ∷ []) ps (Mild (refl, tt)) e
-ended_deed o m i _ ps e = cc
+ended_deed o m i _ ps e = none_some ps e
 
 process_deed : (o : Point) (m : ℕ) (i : MsgId) (is : List MsgId) (t : Told) (k : Known) (ps : List Part) → AtFront o (Step.Turn m) m i is t → o.view.known m t.receiver ≡ k → process_told o m i t k ≡ Some ps → Deed o (Step.Turn m) ps
 process_deed o m i is t Here ps f known e = here_deed o m i is t t.kind ps f refl known e
@@ -205,7 +204,7 @@ receiver_deed b o m i is t true ps f e = kernel_deed b o m i is t t.about ps f r
 receiver_deed b o m i is t false ps f e = process_deed o m i is t (o.view.known m t.receiver) ps f refl e
 
 hears_deed : (b : Boot) (o : Point) (m : ℕ) (i : MsgId) (is : List MsgId) (q : Option Told) (ps : List Part) → o.view.inbox m ≡ i ∷ is → o.view.told i ≡ q → rule.hears b o m i q ≡ Some ps → Deed o (Step.Turn m) ps
-hears_deed b o m i is None ps box told e = cc
+hears_deed b o m i is None ps box told e = none_some ps e
 hears_deed b o m i is (Some t) ps box told e = receiver_deed b o m i is t (t.receiver.num == 0) ps (record { turn = refl; box = box; told = told }) e
 
 net_is_mild : (l : Line) → IsNetLine l → is_wild l ≡ false

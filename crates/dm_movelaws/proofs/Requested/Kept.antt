@@ -5,7 +5,7 @@ use Rattle.dm_movelaws.proofs.Names.{pid_eq-same, MsgId, id_eq, id_eq-is, Messag
 use Rattle.dm_movelaws.proofs.Names.{Known, Here, Frozen, Incoming, at_record, set_all, sets, aim, target_of, known_at, view_after, after_put, put_at, put_told_off, first_point, after, Point, moved, label_of, Part, Says, Routes, Again}
 use Rattle.dm_movelaws.proofs.Names.{Owns, Spelled, spelled, puts, own_id, sends_on, called_parts, to_kernel, leaves_for, answers_move, tells_asker, group_of, by_group, begun, said_by, append_assoc, Phase, Moves, IsIn, IsLeft, Asks, Comes}
 use Rattle.dm_movelaws.proofs.Names.{InPhases, token_in, told_between, sender_in, receiver_in, is_between, pulls_piece, brings_piece, sort_of, kernel_after, is_put, goes_out, packet_line, Load, front_of, option_and_then, slice_get, Inbox}
-use Rattle.dm_movelaws.proofs.Names.{Untaken, standing, Run, is_moving, count, nat_tests, arith, first_told, target_in, source_holds, front_one, here_free, IsAsked, IsDirected, starts}
+use Rattle.dm_movelaws.proofs.Names.{Untaken, standing, Run, is_moving, count, nat_tests, arith, first_told, target_in, source_holds, front_one, here_free, IsAsked, IsDirected, starts, none_some}
 use Rattle.dm_rule.specs.Rule as rule
 use Rattle.dm_movelaws.proofs.After.{after-append, spelled_after}
 use Rattle.dm_movelaws.proofs.Leading.{All, Saying, next_of, part_leads}
@@ -108,8 +108,8 @@ token_is v p m i t (Moves k s d (Some j)) is told stands e =
     by_ways : (Inbox m ≡ Inbox (receiver_in k s d)) ⊎ (Inbox m ≡ Untaken (sender_in k s d) (receiver_in k s d)) → m ≡ receiver_in k s d
     by_ways (inl e) = cc
     by_ways (inr e) = cc
-token_is v p m i t (Moves k s d None) is told stands e = cc
-token_is v p m i t _ is told stands e = cc
+token_is v p m i t (Moves k s d None) is told stands e = none_some i e
+token_is v p m i t _ is told stands e = none_some i e
 
 not_left : (v : View) (p : Pid) (phase : Phase) (i : MsgId) (t : Told) → pulls_piece (sort_of t.kind) ≡ false → brings_piece (sort_of t.kind) ≡ false → IsLeft v p phase i t → ⊥
 not_left v p phase i t pulls brings (Asks s d j is told way is_ before) = false≢true (sym pulls ∙ is)

@@ -6,7 +6,7 @@ use Rattle.dm_movelaws.proofs.Names.{plain_kind, PlainMessage, Label, Sound, Par
 use Rattle.dm_movelaws.proofs.Names.{bag_receive, bag_dropped, bag_gone, bag_no_space, bag_created, bag_served, bag_took, group_is, stands_right, is_put, hidden, Sane, outcome_sayable, Rides, begun, begun_sane, Run, Sayable, ⊤, IsNetLine}
 use Rattle.dm_movelaws.proofs.Names.{first_is, times_self, by_migrates, IsHeardLine, hears_kept, by_round, by_handles, by_forwards, by_outcome, bag_asked, bag_answered, answer_id, ◌+◌, Bool, if◌then◌else◌, take, drop, PlainWhat, Why, Life}
 use Rattle.dm_movelaws.proofs.Names.{with_process, with_sent, answer_to, without_message, pid_eq-is, id_eq-same, Sent, sent_at, ServerSends, board_takes_lem, manager_takes_lem, lands-is, Sent-from, name_is, by_step, with_note, Kept}
-use Rattle.dm_movelaws.proofs.Names.{calls_off_kept, ends_with, buries, preds_of, buries_kept, Ended}
+use Rattle.dm_movelaws.proofs.Names.{calls_off_kept, ends_with, buries, preds_of, buries_kept, Ended, none_some}
 use Rattle.dm_onekernel.specs.Step as kernel
 use Rattle.dm_rule.specs.Rule as rule
 use Rattle.dm_onekernel.specs.Kernel as kernels
@@ -137,7 +137,7 @@ abbrev pub AllOuts : (MsgId → Type 0) → List Part → Type 0
 AllOuts P = All (PartOuts P)
 
 nothing : (P : MsgId → Type 0) (i : MsgId) → None ≡ Some i → P i
-nothing P i e = cc
+nothing P i e = none_some i e
 
 just : (P : MsgId → Type 0) (j : MsgId) → P j → (i : MsgId) → Some j ≡ Some i → P i
 just P j h i e = let f : j ≡ i = cc in subst P f h

@@ -1,5 +1,5 @@
 -- Where not all is at rest each pass of a rest that begins has something to do.
-use Rattle.dm_movelaws.proofs.Names.{◌≡◌, ◌⊎◌, ℕ, zero, suc, Bool, true, false, ◌||◌, List, ◌∷◌, is_some, refl, ap, ◌∙◌, sym, inl, inr, if◌then◌else◌, Option, None, Some, false≢true, Boot, Step, Pass, Next, Todo, all_of}
+use Rattle.dm_movelaws.proofs.Names.{◌≡◌, ◌⊎◌, ℕ, zero, suc, Bool, true, false, List, ◌∷◌, is_some, refl, ap, ◌∙◌, sym, inl, inr, if◌then◌else◌, Option, None, Some, false≢true, Boot, Step, Pass, Next, Todo, all_of}
 use Rattle.dm_rule.proofs.Names.{Directive}
 use Rattle.dm_movelaws.proofs.Names.{begin_pass, in_pass, next_delivery, next_directive, next_pass, or, settles, takes_turn, next_step, undelivered, Leads, Point, first_point, has_mail, at_rest, seen_at, IsAtRest, serves_some}
 use Rattle.dm_line.specs.Todo.{is_over}

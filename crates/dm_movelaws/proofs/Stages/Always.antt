@@ -6,7 +6,6 @@ use Rattle.dm_movelaws.proofs.Names.{begun, begun_sane, Mark, marks, in_order, S
 use Rattle.dm_movelaws.proofs.Names.{move_target, Target, Here, sort_of, MessageKind, option_map_or, IsValid, inl, inr, cases_Bool, false≢true, gives_piece, to_kernel, label_of, is_put, touches, Spot, ids_at, handled}
 use Rattle.dm_movelaws.proofs.Names.{proto_off, proto_known, ◌&&◌, not, pulls_piece, brings_piece, is_stale, is_waited_from, Due, Remains, due, due_or_left, stale_left, calm_phases, called_parts, by_calls_off, rooted, bind, told_here}
 use Rattle.dm_movelaws.proofs.Names.{by_known, told_ended, buried, tells_end, bury_is, buries_kept, preds_of}
-use Rattle.dm_onekernel.specs.Step as kernel
 use Rattle.dm_rule.specs.Rule as rule
 use Rattle.dm_rule.proofs.Groups as groups
 use Rattle.dm_movelaws.proofs.Stages.Spares.{mark_in, spares_same, spares_calm, Marked, none_marked, order-append, open-append, open_after, marks-append, marks_of, group_says}

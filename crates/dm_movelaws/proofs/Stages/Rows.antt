@@ -2,8 +2,8 @@
 use Rattle.dm_movelaws.proofs.Names.{◌≡◌, ℕ, ◌≤◌, Bool, true, false, List, [], ◌∷◌, ◌++◌, refl, ap, ◌∙◌, sym, subst, inl, inr, arith, if◌then◌else◌, Option, None, Some, cases_Bool, false≢true, Pid, pid_eq, MsgId, MessageKind, id_eq, bind}
 use Rattle.dm_movelaws.proofs.Names.{Line, View, Told, Of, own_id, view_after, handled, is_between, Point, label_of, kernel_after, moved, Part, Says, Owns, Spelled, behind, spelled, Spot, Inbox, times, ids_at, id_eq-is, id_eq-same}
 use Rattle.dm_movelaws.proofs.Names.{pid_eq-is, pid_eq-same, is_put, not_true, line_next, one_of, touches, onward, handled_spots, packet_calm, put_at, put_there, put_spot, PairsFit, puts_next, said, Sane, sane_line, Mark, with_mark}
-use Rattle.dm_movelaws.proofs.Names.{in_order, first_none, nat_tests, seen_none, ⊤, Stage, Label, OneKernel, at_record, Known, served_told, Transmits, standing, pid_eq-swap, out_of, IsNet, hushed, gone_in, Plain, record_off, Tame}
-use Rattle.dm_movelaws.proofs.Names.{line_calm, plain_in_bag, created_off, served_keeps, other_than, fits_put, fits_packet, Sayable, part_sane, by_parts, Steps, PacketsKeep, pid_of, sort_of, sender_in, receiver_in, Incoming, Load, Phase}
+use Rattle.dm_movelaws.proofs.Names.{in_order, first_none, nat_tests, seen_none, ⊤, Stage, Label, OneKernel, at_record, Known, served_told, Transmits, standing, pid_eq-swap, IsNet, hushed, record_off, Tame}
+use Rattle.dm_movelaws.proofs.Names.{line_calm, created_off, served_keeps, other_than, fits_put, fits_packet, Sayable, part_sane, by_parts, Steps, PacketsKeep, pid_of, sort_of, sender_in, receiver_in, Incoming, Load, Phase}
 use Rattle.dm_movelaws.proofs.Names.{IsIn, ◌||◌, pulls_piece, brings_piece, IsLeft, piece_ways, pull_ways, tame_kind}
 pub use Rattle.dm_rule.proofs.Phases.Put.{of_same}
 use Rattle.dm_onekernel.specs.Step as kernel

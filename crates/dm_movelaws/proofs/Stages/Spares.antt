@@ -4,7 +4,7 @@ use Rattle.dm_movelaws.proofs.Names.{Unknown, Here, Frozen, Incoming, after_put,
 use Rattle.dm_movelaws.proofs.Names.{IsIn, id_eq-is, PairsFit, put_told_off, Calm, between_of, put_spots, put_at, put_there, put_spot, rests_here, Mark, Reached, Lacking, in_order, eq_self, not_false, right_true, first_kept, nat_tests}
 use Rattle.dm_movelaws.proofs.Names.{arith, calm_about, calm_same, About, ◌∷◌, ◌++◌, pid_eq, Boot, pid_eq-same, Step, Line, Point, moved, Part, Says, Spelled, lines_of, spelled, sends_on, group_of, outcome, mark_for, with_mark, marks}
 use Rattle.dm_movelaws.proofs.Names.{left_open, left_true, both_true, by_parts, group_is, pid_of, ◌&&◌, kind_comes, sort_of, sender_in, receiver_in, eq_is, tells_onward, is_calloff, Calling, ◌||◌, pulls_piece, brings_piece, IsLeft, Asks}
-use Rattle.dm_movelaws.proofs.Names.{Comes, piece_ways, pull_ways, comes_known, called_known, not_true, Forward}
+use Rattle.dm_movelaws.proofs.Names.{Comes, piece_ways, pull_ways, comes_known, called_known, not_true, Forward, none_some}
 use Rattle.dm_rule.specs.View as view
 use Rattle.dm_movelaws.proofs.Leading.{lines_are}
 
@@ -270,7 +270,7 @@ left_never v p (Moves k s d (Some j)) b i t h g told left e =
     let f : Some (told_between p k s d) ≡ Some t = sym h.token.told ∙ ap v.told same ∙ told in
     let is : told_between p k s d ≡ t = cc in
     awaited_left v p b i t g (subst (IsAwaited v p i) is (subst (λ (x : MsgId). IsAwaited v p x (told_between p k s d)) same (λ m n piece from was. phase_awaited v p k s d j h m n piece from was))) left
-left_never v p _ b i t h g told left e = cc
+left_never v p _ b i t h g told left e = none_some i e
 
 pub left_marked : (v w : View) (p : Pid) (phase : Phase) (x : MsgId) (t : Told) → IsIn v p phase → v.told x ≡ Some t → IsLeft v p phase x t → SparesBut v w p x → Marked v w p []
 left_marked v w p phase x t is told left s (Moves c m n (Some i)) b h k da db waits =

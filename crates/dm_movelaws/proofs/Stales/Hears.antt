@@ -7,7 +7,6 @@ use Rattle.dm_movelaws.proofs.Names.{line_next, turned, handled, label_of, by_fo
 use Rattle.dm_movelaws.proofs.Names.{buried, preds_of, buries_kept, bury_is}
 use Rattle.dm_rule.specs.Rule as rule
 use Rattle.dm_rule.specs.View as view
-use Rattle.dm_onekernel.specs.Step as kernel
 use Rattle.dm_movelaws.proofs.Names.{Size, size_of, is_server}
 use Rattle.dm_movelaws.proofs.LastPieces.{last_chunk, state_goes}
 use Rattle.dm_movelaws.proofs.Stages.Spares.{is_piece}

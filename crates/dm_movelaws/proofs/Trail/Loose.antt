@@ -1,7 +1,7 @@
 -- Lines, puts and packets that fit the trails anywhere, and leave each process where it is.
-use Rattle.dm_movelaws.proofs.Names.{◌≡◌, ℕ, ◌+◌, ◌==◌, Bool, true, false, List, [], ◌∷◌, length, refl, ap, ◌∙◌, sym, subst, if◌then◌else◌, Option, None, Some, Pid, pid_of, MsgId, MessageKind, Stage, plain_kind, Label, OneKernel, entry}
-use Rattle.dm_movelaws.proofs.Names.{reception, id_eq-same, after_step, bind-is, Line, Load, View, Told, own_id, view_after, handled, receiver_of, Receiver, goes_between, own_given, Point, moved, after, Part, Says, Routes, Owns, Transmits}
-use Rattle.dm_movelaws.proofs.Names.{puts, goes_out, packet_line, to_kernel, Trails, IsOn, trails_after, IsNet, IsNetLine, SaidOn, not_kernels, queued_known, held_known, dropped_known, Sane, Outside, Treads, LineFits, LabelFits, KnownFits}
+use Rattle.dm_movelaws.proofs.Names.{◌≡◌, ℕ, ◌+◌, ◌==◌, Bool, true, false, List, [], ◌∷◌, length, refl, ap, ◌∙◌, sym, subst, if◌then◌else◌, Option, None, Some, Pid, pid_of, MsgId, MessageKind, Stage, plain_kind, Label, OneKernel}
+use Rattle.dm_movelaws.proofs.Names.{id_eq-same, bind-is, Line, Load, View, Told, own_id, view_after, handled, receiver_of, Receiver, goes_between, own_given, Point, moved, after, Part, Says, Routes, Owns, Transmits}
+use Rattle.dm_movelaws.proofs.Names.{puts, goes_out, packet_line, to_kernel, Trails, IsOn, trails_after, IsNet, IsNetLine, SaidOn, not_kernels, queued_known, held_known, dropped_known, Sane, Treads, LineFits, LabelFits, KnownFits}
 use Rattle.dm_movelaws.proofs.Names.{PutFits, Rides, Steps, said_by, own_outside, own_fresh, queued_moves, held_moves, dropped_moves, nat_tests, arith, ◌++◌, ⊤, PlainMessage, bind, after_line, Again, Spelled, lines_of, spelled, Trodden}
 use Rattle.dm_movelaws.proofs.Names.{along, AllSayable, part_sane, line_treads, Said, plain_own, by_parts, Addresses, Sort, is_between, sort_of, false≢true, tells_between, seen, ◌≢◌, ◌≤◌, length-append, slice_get, pid_eq, Known, Frozen}
 use Rattle.dm_movelaws.proofs.Names.{Incoming, Forward, forwarded_for, gone_to, Sender, is_told_back, forwards_on, sends_on, Moves, IsIn, times, destination, both_lists, forwarded_known, get_at_end, forwarded_back, Named, source_holds}
@@ -9,7 +9,6 @@ use Rattle.dm_movelaws.proofs.Names.{two_apart, sent_on_at, again_rides, named_f
 use Rattle.dm_rule.proofs.Trails.Along.{AllFit}
 use Rattle.dm_movelaws.proofs.Trail.Placed.{Places, placed_same, is_held, Placed, Elsewhere, placed_left, places_set, moves_held, moves_comes}
 use Rattle.dm_movelaws.proofs.Leading.{Behind, whatever_put, part_leads}
-use Rattle.dm_onekernel.specs.Step as kernel
 use Rattle.dm_rule.specs.Rule as rule
 use Rattle.dm_rule.specs.Burying as bury
 use Rattle.dm_rulelaws.proofs.Found.Labels.{outside}

@@ -3,7 +3,7 @@ use Rattle.dm_movelaws.proofs.Names.{◌≡◌, ◌≢◌, ℕ, ◌<◌, ◌||�
 use Rattle.dm_movelaws.proofs.Names.{Some, Pid, pid_eq, pid_eq-is, pid_eq-same, MessageKind, Boot, Step, IsStep, Label, Life, Line, OneKernel, bind-is, Point, moved, after_line, Spelled, group_of, by_group, label_of, kernel_after, Trails}
 use Rattle.dm_movelaws.proofs.Names.{Trodden, first_trodden, along, trails_after, Treads, line_treads, LineFits, HeadIn, Within, line_within, is_made, is_server, life_sort, SetLife, step_alike, step_ends, step_serves, step_creates}
 use Rattle.dm_movelaws.proofs.Names.{source_holds, destination_expects, destination, is_kill, plain_kind, touches, IsNetLine, Known, Incoming, Frozen, Unknown, Both, first_point, map, zero, suc, BootProcess, option_map}
-use Rattle.dm_movelaws.proofs.Names.{BootImage, first_life, life_at, started, plain_link, TrailsIn, some_alike}
+use Rattle.dm_movelaws.proofs.Names.{BootImage, first_life, life_at, started, plain_link, TrailsIn, some_alike, none_some}
 use Rattle.dm_onekernel.specs.Step as kernel
 use Rattle.dm_rule.proofs.Trails.Along.{AllFit}
 use Rattle.dm_movelaws.proofs.At.RestOnly.{is_dead}
@@ -65,7 +65,7 @@ created_ranges n s u t p set first long less h = record {
 -- a trail that grows
 get_more : (xs : List ℕ) (d c m n : ℕ) → slice_get (xs ++ d ∷ []) c ≡ Some m → ((k x : ℕ) → slice_get xs k ≡ Some x → x < n) → d < n → m < n
 get_more [] d zero m n e h less = let f : d ≡ m = cc in subst (λ (k : ℕ). k < n) f less
-get_more [] d (suc c) m n e h less = cc
+get_more [] d (suc c) m n e h less = none_some m e
 get_more (x ∷ xs) d zero m n e h less = h 0 m e
 get_more (x ∷ xs) d (suc c) m n e h less = get_more xs d c m n e (λ k y g. h (suc k) y g) less
 

@@ -1,5 +1,5 @@
 -- Behind any line there is a kernel with places, where there was one before.
-use Rattle.dm_places.proofs.Names.{◌≡◌, ◌+◌, ◌++◌, false, List, [], ◌∷◌, refl, ◌∙◌, sym, subst, inl, inr, if◌then◌else◌, option_map, Option, None, Some, cases_Bool, Pid, Place, pid_eq, applied, MsgId, Process, sent_on, manager, arith}
+use Rattle.dm_places.proofs.Names.{◌≡◌, ◌++◌, false, List, [], ◌∷◌, refl, ◌∙◌, sym, subst, inl, inr, option_map, Option, None, Some, cases_Bool, Pid, Place, pid_eq, applied, MsgId, Process, sent_on, manager, arith}
 use Rattle.dm_places.proofs.Names.{nat_tests, switchboard, OneKernel, plain_process, pid_eq-is, Line, Stage, Told, View, handled, own_id, receiver_of, view_after, Addresses, Receiver, all_follow, forwards, gets, given, is_told_back}
 use Rattle.dm_places.proofs.Names.{place_known, place_told, told_back_gets, updated, updated_to, Point, after_line, moved, Placed, Mirrors, with_message, with_process, KeepsPlaces, LineNeeds, MirrorsPoint, ServersApart}
 use Rattle.dm_onekernel.specs.Step as kernel

@@ -3,7 +3,7 @@ use Rattle.dm_places.proofs.Names.{◌≡◌, ℕ, zero, suc, ◌==◌, Bool, tr
 use Rattle.dm_places.proofs.Names.{nat_tests, Addr, Link, pid_eq, place_of, relocated, retargeted, retargeted_link, plain_link, link_at, plain_map_retargeted, applied, status_after, MsgId, Process, Status, Line, manager, switchboard}
 use Rattle.dm_places.proofs.Names.{Manager, NamedLink, OneKernel, plain_process, plain_status, Named, retargeted_named, Pending, plain_child, plain_pending, retargeted_manager, retargeted_pending, child_address, pending_request, pid_eq-is}
 use Rattle.dm_places.proofs.Names.{pid_eq-same, pid_eq-swap, About, Told, View, view_after, Addresses, Answer, Child, Holder, Name, Owner, Slot, ToBoard, belongs_to, leads_to, link_target, owner_in, updated, updated_to, Point, PlainProcess, moved}
-use Rattle.dm_places.proofs.Names.{SameMessage, SameProcess, Placed, Mirrors, MirrorsProcess, owner_at, MirrorsPoint, with_process, AnswerNames, option_and_then}
+use Rattle.dm_places.proofs.Names.{SameMessage, SameProcess, Placed, Mirrors, MirrorsProcess, owner_at, MirrorsPoint, with_process, AnswerNames, option_and_then, none_some}
 use Rattle.dm_link.specs.Places as places
 use Rattle.dm_onekernel.specs.Kernel as one
 use Rattle.dm_onekernel.specs.Manager as manage
@@ -140,7 +140,7 @@ switchboard_told s v a l r at moves none h =
 
 -- the manager
 pub child_leads : (s : OneKernel) (v : View) (a : Addresses) (l : Placed) (n : ℕ) (c : Addr) → Mirrors s v a l → child_address l.manager.children n ≡ Some c → leads_to s (Child n) ≡ Some c.pid
-child_leads s v a l zero c h there = cc
+child_leads s v a l zero c h there = none_some c there
 child_leads s v a l (suc n) c h there =
     ap (λ (g : Manager). manage.child_numbered g.children (suc n)) (sym h.plain.manager) ∙ slice_get-map plain_child l.manager.children n ∙ ap (option_map plain_child) there
 
@@ -158,7 +158,7 @@ pending_map r at moves n [] = refl
 pending_map r at moves n (y ∷ ys) = pending_if r at moves n y ys (y.n == n) (pending_map r at moves n ys)
 
 child_follows : (s : OneKernel) (v : View) (a : Addresses) (l : Placed) (r : Pid) (at moves n : ℕ) (c : Addr) → Mirrors s v a l → child_address (map (retargeted r at moves) l.manager.children) n ≡ Some c → told_of s a manager r at moves (Child n) ≡ place_of c
-child_follows s v a l r at moves zero c h e = cc
+child_follows s v a l r at moves zero c h e = none_some c e
 child_follows s v a l r at moves (suc n) c h e =
     let (u, there, is) = of_map (retargeted r at moves) (slice_get l.manager.children n) c (sym e ∙ slice_get-map (retargeted r at moves) l.manager.children n) in
     led s a manager r at moves (Child (suc n)) u refl (child_leads s v a l (suc n) u h there) (h.places.child (suc n) u there) ∙ ap place_of is

@@ -2,7 +2,7 @@
 use Rattle.dm_places.proofs.Names.{◌≡◌, ℕ, zero, suc, ◌+◌, ◌≤◌, Bool, true, false, List, [], ◌∷◌, ◌++◌, map, cond, count_by, refl, ap, ◌∙◌, sym, arith, if◌then◌else◌, nat_le, slice_get, Option, Some, nat_tests, sum_by-cons, Pid, Link}
 use Rattle.dm_places.proofs.Names.{pid_eq, PlainLink, link_at, plain_slot, slot_is_behind, Process, manager, switchboard, Manager, OneKernel, Switchboard, named_is_behind, plain_named, Pending, pending_is_behind, plain_child, plain_pending}
 use Rattle.dm_places.proofs.Names.{pending_request, pid_eq-same, About, View, Addresses, Answer, Child, Holder, Name, Slot, ToBoard, place_told, ascends, answers_in, behind_among, behind_count, holders_of, holders_numbered, slot_holders, and-both}
-use Rattle.dm_places.proofs.Names.{Placed, Mirrors, AnswerNames, leads_to, link_target, option_map, plain_link, answer_is_behind}
+use Rattle.dm_places.proofs.Names.{Placed, Mirrors, AnswerNames, leads_to, link_target, option_map, plain_link, answer_is_behind, none_some}
 use Rattle.dm_places.proofs.Following.Updated.{alive_is, answer_leads, behind_led, board_leads, child_leads, name_leads, slot_leads}
 use Rattle.dm_link.specs.Places as places
 use Rattle.dm_onekernel.specs.Kernel as one
@@ -41,7 +41,7 @@ slots_numbered q n [] = refl
 slots_numbered q n (l ∷ ls) = ap (λ (hs : List Holder). Slot q n ∷ hs) (slots_numbered q (n + 1) ls)
 
 slot_there : (ts : List (Option Link)) (j : ℕ) (o : Option Link) → slice_get ts j ≡ Some o → link_at ts j ≡ o
-slot_there [] j o e = cc
+slot_there [] j o e = none_some o e
 slot_there (t ∷ ts) zero o e = cc
 slot_there (t ∷ ts) (suc j) o e = slot_there ts j o e
 
@@ -80,7 +80,7 @@ updated_board_count s v a l q r at moves about h is to =
 
 -- at the manager: its children, and its requests, which have ascending numbers
 own_number : (ps : List Pending) (from to j : ℕ) (y : Pending) → ascends from (map plain_pending ps) to ≡ true → slice_get ps j ≡ Some y → (pending_request y.n ps ≡ Some y) × (from ≤ y.n)
-own_number [] from to j y order there = cc
+own_number [] from to j y order there = none_some y there
 own_number (p ∷ ps) from to zero y order there = grind (arith, nat_tests, and-both, nat_le)
 own_number (p ∷ ps) from to (suc j) y order there =
     let w = and-both (nat_le from p.n) (ascends (p.n + 1) (map plain_pending ps) to) order in

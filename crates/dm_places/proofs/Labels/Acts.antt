@@ -2,7 +2,7 @@
 use Rattle.dm_places.proofs.Names.{◌≡◌, ℕ, ◌==◌, ◌&&◌, true, refl, ap, ◌∙◌, sym, subst, arith, Option, None, Some, nat_tests, Pid, MsgId, Message, id_eq, PlainMessage, plain_message, Process, Status, Label, Regs, Row, instruction, past}
 use Rattle.dm_places.proofs.Names.{Reply, Why, reply_eq, why_eq, bind, Ended, OneKernel, plain_process, plain_status, PlainProcess, Called, calls, plain_called, call_plainly, id_eq-is, bind-is, when-is, View, Addresses, given, gives}
 use Rattle.dm_places.proofs.Names.{call_gets, sending_gets, past_call, gives_by, made_is, gives_same, only_gives_by, Placed, Mirrors, MirrorsKernel, MirrorsProcess, Acted, acted, acts, after_call, after_done, if_ready, machine_of, ran}
-use Rattle.dm_places.proofs.Names.{running, with_acted, with_machine, with_process, with_sent, at_hand-is}
+use Rattle.dm_places.proofs.Names.{running, with_acted, with_machine, with_process, with_sent, at_hand-is, none_some}
 use Rattle.dm_places.proofs.Keeps.{alive_of, goes_mirrors, ends_mirrors, kernel_process, kernel_sent, places_process, places_sends, this_process}
 use Rattle.dm_places.proofs.Labels.Calls.{MirrorsCalled, MirrorsSent, behind, does_call_kept}
 use Rattle.dm_onekernel.specs.Kernel as kernels
@@ -85,7 +85,7 @@ ActsNext v a p x w (kernel.Faults fault) = w ≡ ended
 
 acts_row : (v : View) (a : Addresses) (p : Pid) (x : Process) (w : Row) (n : kernel.Trap) → instruction x.regs x.memory ≡ w → kernel.next_row p (plain_process x) w ≡ Some n → MirrorsProcess v a p x
     → (d : Acted) × (acted v.acting x w ≡ Some d) × ActsNext v a p x d n
-acts_row v a p x (Row.Plain regs bytes) n w e h = cc
+acts_row v a p x (Row.Plain regs bytes) n w e h = none_some n e
 acts_row v a p x (Row.Calls number regs) n w e h =
     let f : regs ≡ past x.regs = past_call x.regs x.memory number regs w in
     let g : kernel.Calls number (one.call p (record (plain_process x) { regs = regs }) number) ≡ n = cc in
@@ -136,7 +136,7 @@ reply_row s t v a l p n c (kernel.Calls number (one.Replies d z)) q is h =
           (ap (kernel.goes_on s p) g.is ∙ k.1) (ap (given a) gs_is) (ap (with_acted l p) (sym g.acted))
           ((search (arith, kernel_process, places_process, this_process))),
     )
-reply_row s t v a l p n c _ q is h = cc
+reply_row s t v a l p n c _ q is h = none_some t is
 
 pub call_follows : (s t : OneKernel) (v : View) (a : Addresses) (l : Placed) (p : Pid) (n : ℕ) (c : Reply) → kernel.step s (Label.Call p n c) ≡ Some t → Mirrors s v a l → Follows t v (given a (gives s v a (Label.Call p n c))) (acts v.acting l p)
 call_follows s t v a l p n c is h =
@@ -161,7 +161,7 @@ send_row s t v a l p id (kernel.Calls number (one.Sends m z)) nx q is h =
           (ap (λ (u : PlainProcess). kernels.with_sent (kernel.goes_on s p u) (Some m)) g.is ∙ k.1) (ap (given a) gs_is) (ap (with_acted l p) (sym g.acted))
           ((search (arith, kernel_sent, kernel_process, places_sends, this_process))),
     )
-send_row s t v a l p id _ nx q is h = cc
+send_row s t v a l p id _ nx q is h = none_some t is
 
 pub send_follows : (s t : OneKernel) (v : View) (a : Addresses) (l : Placed) (p : Pid) (id : MsgId) → kernel.step s (Label.Send p id) ≡ Some t → Mirrors s v a l → Follows t v (given a (gives s v a (Label.Send p id))) (acts v.acting l p)
 send_follows s t v a l p id is h =
@@ -179,7 +179,7 @@ goes_follows s t v a l p w z is g f h = (
 -- wait
 wait_row : (s t : OneKernel) (v : View) (a : Addresses) (l : Placed) (p : Pid) (next : kernel.Trap) → ActsOf s v a l p next → kernel.waits s p next ≡ Some t → Mirrors s v a l → Follows t v a (acts v.acting l p)
 wait_row s t v a l p (kernel.Calls number (one.Waits z)) q is h = goes_follows s t v a l p q.w z q.acts q.next (let f : kernel.goes_on s p z ≡ t = cc in f) h
-wait_row s t v a l p _ q is h = cc
+wait_row s t v a l p _ q is h = none_some t is
 
 pub wait_follows : (s t : OneKernel) (v : View) (a : Addresses) (l : Placed) (p : Pid) → kernel.step s (Label.Wait p) ≡ Some t → Mirrors s v a l → Follows t v a (acts v.acting l p)
 wait_follows s t v a l p is h =
@@ -190,7 +190,7 @@ wait_follows s t v a l p is h =
 out_row : (s t : OneKernel) (v : View) (a : Addresses) (l : Placed) (p : Pid) (word : ℕ) (next : kernel.Trap) → ActsOf s v a l p next → kernel.outputs s p word next ≡ Some t → Mirrors s v a l → Follows t v a (acts v.acting l p)
 out_row s t v a l p word (kernel.Calls number (one.Outputs other z)) q is h =
     let k = when-is (word == other) (kernel.goes_on s p z) t is in goes_follows s t v a l p q.w z q.acts q.next k.1 h
-out_row s t v a l p word _ q is h = cc
+out_row s t v a l p word _ q is h = none_some t is
 
 pub out_follows : (s t : OneKernel) (v : View) (a : Addresses) (l : Placed) (p : Pid) (word : ℕ) → kernel.step s (Label.Out p word) ≡ Some t → Mirrors s v a l → Follows t v a (acts v.acting l p)
 out_follows s t v a l p word is h =
@@ -210,7 +210,7 @@ end_row s t v a l p y (kernel.Calls number (one.Ends because)) q is h =
     let k = when-is (why_eq y because) (kernels.with_process s p (Ended y)) t is in ends_follows s t v a l p y q.w q.acts q.next k.1 h
 end_row s t v a l p y (kernel.Faults fault) q is h =
     let k = when-is (why_eq y (Why.Fault fault)) (kernels.with_process s p (Ended y)) t is in ends_follows s t v a l p y q.w q.acts q.next k.1 h
-end_row s t v a l p y _ q is h = cc
+end_row s t v a l p y _ q is h = none_some t is
 
 pub end_follows : (s t : OneKernel) (v : View) (a : Addresses) (l : Placed) (p : Pid) (y : Why) → kernel.step s (Label.End p y) ≡ Some t → Mirrors s v a l → Follows t v a (acts v.acting l p)
 end_follows s t v a l p y is h =

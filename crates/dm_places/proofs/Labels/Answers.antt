@@ -3,7 +3,7 @@
 use Rattle.dm_places.proofs.Names.{◌≡◌, ℕ, List, [], ◌∷◌, Bool, refl, ap, ◌∙◌, sym, subst, if◌then◌else◌, slice_get, Option, None, Some, Link, Place, place_of, MsgId, Message, What, Label, PlainMessage, PlainWhat, plain_message, plain_what}
 use Rattle.dm_places.proofs.Names.{arith, bind, OneKernel, answer_id, answer_to, answer, gone_answer, id_eq-same, bind-is, when-is, View, Addresses, answer_gets, given, gives, Receiver, Sender, unmoved, two, two_process, two_servers}
 use Rattle.dm_places.proofs.Names.{two_off, Placed, Mirrors, MirrorsMessage, enclosed, with_sent, without_message, Asker, AskedBy, Gets, MoveNote, Outcome, Pid, PlainProcess, Process, acting_place, asker_of, gets, id_of, manager}
-use Rattle.dm_places.proofs.Names.{moved_answer, pid_eq-same, plain_note, manager_request, with_note, without_note, ends_move-is, option_map_or}
+use Rattle.dm_places.proofs.Names.{moved_answer, pid_eq-same, plain_note, manager_request, with_note, without_note, ends_move-is, option_map_or, none_some}
 use Rattle.dm_onekernel.specs.Kernel as kernels
 use Rattle.dm_onekernel.specs.Service as service
 use Rattle.dm_onekernel.specs.Step as kernel
@@ -70,7 +70,7 @@ no_room_row s t v a l id m k (PlainWhat.Create image links) is hm says h =
     let z = when-is (service.is_kernel s k.to) (kernels.with_sent (service.without_message s id) (Some (answer_to k PlainWhat.NoRoom))) t is in
     subst (λ (u : OneKernel). Mirrors u v (given a (answer_gets a id (unmoved v.acting))) (with_sent (without_message l id) (Some (answer v.acting 0 m What.NoRoom)))) z.1
     (answer_mirrors (service.without_message s id) v a (without_message l id) id m k What.NoRoom PlainWhat.NoRoom 0 hm says refl refl (out_mirrors s v a l id h))
-no_room_row s t v a l id m k u is hm says h = cc
+no_room_row s t v a l id m k _ is hm says h = none_some t is
 
 pub no_space_follows : (s t : OneKernel) (v : View) (a : Addresses) (l : Placed) (id : MsgId) (f b : ℕ) → kernel.step s (Label.NoSpace id f b) ≡ Some t → Mirrors s v a l
     → Follows t v (given a (gives s v a (Label.NoSpace id f b))) (bind (l.bag id) (λ (m : Message). Some (with_sent (without_message l id) (Some (answer v.acting 0 m What.NoRoom)))))
@@ -101,7 +101,7 @@ asked_row s t v a l id m k (PlainWhat.Move machine) is needs hm says h =
     let done = noted_mirrors (service.without_message s id) v a (b p) (without_message l id) p w (λ q. record { slot = λ i. refl; owner = refl }) (λ i. record { receiver = refl; sender = refl; enclosed = λ j. refl }) (λ n. refl) (λ n. refl) (λ n. refl) refl
     (λ q apart. ap (λ (c : Bool). if c then pl else a (AskedBy q)) apart) (ap (λ (c : Bool). if c then pl else a (AskedBy p)) (pid_eq-same p) ∙ hm.sender) (out_mirrors s v a l id h) in
     search (arith, mirrors_as)
-asked_row s t v a l id m k u is needs hm says h = cc
+asked_row s t v a l id m k _ is needs hm says h = none_some t is
 
 pub asked_follows : (s t : OneKernel) (v : View) (a : Addresses) (l : Placed) (id : MsgId) → kernel.step s (Label.Asked id) ≡ Some t → id ≡ id_of manager id.n → Mirrors s v a l
     → Follows t v (given a (gives s v a (Label.Asked id))) (bind (l.bag id) (λ (m : Message). Some (with_note (without_message l id) m.to.pid id (asker_of m))))

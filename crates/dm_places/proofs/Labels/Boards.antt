@@ -2,7 +2,7 @@
 use Rattle.dm_places.proofs.Names.{◌≡◌, ℕ, suc, ◌+◌, ◌==◌, Bool, false, List, [], ◌∷◌, ◌++◌, refl, ap, ◌∙◌, sym, subst, inl, inr, arith, if◌then◌else◌, map, slice_get, Option, None, Some, cases_Bool, length-map, Pid, Link, place_of}
 use Rattle.dm_places.proofs.Names.{PlainLink, plain_link, MsgId, Message, What, id_eq, id_of, PlainMessage, PlainWhat, plain_what, is_general, switchboard, bind, OneKernel, Switchboard, bytes_eq, is_name, Named, plain_board, plain_named}
 use Rattle.dm_places.proofs.Names.{Asked, plain_answer, plain_asks, plain_asked, plain_reply, id_eq-same, View, Addresses, given, Receiver, Sender, Enclosed, Child, Name, Answer, acting_place, place_named, board_asks, board_finds, board_keeps}
-use Rattle.dm_places.proofs.Names.{board_gets, SameProcess, SameMessage, two, two_off, get_last, Placed, Mirrors, MirrorsKernel, MirrorsMessage, enclosed, board_took, without_message, AskedBy, ToBoard}
+use Rattle.dm_places.proofs.Names.{board_gets, SameProcess, SameMessage, two, two_off, get_last, Placed, Mirrors, MirrorsKernel, MirrorsMessage, enclosed, board_took, without_message, AskedBy, ToBoard, none_some}
 use Rattle.dm_switchboard.specs.declared.reply.Reply.{Reply}
 use Rattle.dm_places.proofs.Keeps.{answer_as, board_place, came_places, kernel_out, kernel_sent, out_mirrors, places_out, process_same}
 use Rattle.dm_places.proofs.Labels.Acts.{Follows}
@@ -43,7 +43,7 @@ record FoundAt (name : List ℕ) (names : List Named) (n : ℕ) (w : Link) : Typ
   place : place_named name (map plain_named names) n ≡ n + i
 
 found_at : (name : List ℕ) (names : List Named) (n : ℕ) (w : Link) → board.link_named name names ≡ Some w → FoundAt name names n w
-found_at name [] n w e = cc
+found_at name [] n w e = none_some w e
 found_at name (k ∷ ks) n w e = elim (cases_Bool (bytes_eq k.name name)) [
   | inl same ↦
       let f : Some k.link ≡ Some w = sym (ap (λ (b : Bool). if b then Some k.link else board.link_named name ks) same) ∙ e in
@@ -165,4 +165,4 @@ board_row s t v a l id m k (PlainWhat.User code channel bytes ls) says hm h e =
           (subst (λ (ks : List PlainLink). Mirrors (service.switchboard_took s id (one.takes_request s.switchboard body ks)) v (given a (board_gets s v a id (PlainWhat.User code channel body ks))) on) w.links_are
           (board_request s v a l id code channel body links (λ n x g. hm.enclosed n x (ap (λ (y : What). slice_get (enclosed y) n) w.is ∙ g)) h))),
     )
-board_row s t v a l id m k u says hm h e = cc
+board_row s t v a l id m k u says hm h e = none_some t e

@@ -3,7 +3,7 @@ use Rattle.dm_places.proofs.Names.{◌≡◌, ℕ, Bool, true, false, List, [], 
 use Rattle.dm_places.proofs.Names.{pid_eq, plain_link, first_empty, link_at, plain_slot, MsgId, Message, id_eq, PlainMessage, User, plain_message, Process, Direction, Regs, past, Reply, plain_process, reg, CallNumber, first_failed}
 use Rattle.dm_places.proofs.Names.{address_of, Called, Done, emptied, links_in, first_of, slot_at, pid_eq-same, id_eq-same, View, Addresses, Gets, gets, given, Slot, Owner, Receiver, Sender, acting_place, encloses, fills, fills_by}
 use Rattle.dm_places.proofs.Names.{sending_gets, set_link, emptied_link, SameProcess, SameMessage, SameServers, encloses_servers, encloses_process, encloses_message, encloses_at, gives_by, no_gives, or-left, or-right, MirrorsProcess}
-use Rattle.dm_places.proofs.Names.{MirrorsMessage, enclosed, owner_at}
+use Rattle.dm_places.proofs.Names.{MirrorsMessage, enclosed, owner_at, none_some}
 use Rattle.dm_onekernel.specs.Calls as one
 use Rattle.dm_syscall.specs.Calls as calls
 
@@ -86,7 +86,7 @@ listed_step : (v : View) (a : Addresses) (p : Pid) (x : Process) (s : ℕ) (ss :
 listed_step v a p x s ss k w o h1 h2 h3 h4 h5 = search arith
 
 listed_kept : (v : View) (a : Addresses) (p : Pid) (x : Process) (ss : List ℕ) (k : ℕ) (w : Link) → MirrorsProcess v a p x → one.any_empty (map plain_slot x.table) ss ≡ false → slice_get (filter_map (link_at x.table) ss) k ≡ Some w → Listed a p ss k w
-listed_kept v a p x [] k w h some e = cc
+listed_kept v a p x [] k w h some e = none_some w e
 listed_kept v a p x (s ∷ ss) k w h some e =
     let first : is_none (link_at (map plain_slot x.table) s) ≡ false = or-left (is_none (link_at (map plain_slot x.table) s)) (one.any_empty (map plain_slot x.table) ss) some in
     listed_step v a p x s ss k w (link_at x.table s) h refl (sym (elim (link_at x.table s) as (λ o. is_none (plain_slot o) ≡ is_none o)

@@ -2,7 +2,7 @@
 use Rattle.dm_places.proofs.Names.{◌≡◌, ℕ, zero, suc, ◌+◌, ◌-◌, ◌&&◌, List, [], ◌∷◌, ◌++◌, length, refl, ap, ◌∙◌, sym, subst, arith, map, option_map, slice_get, replicate, Option, None, Some, length-map, slice_get-map, Pid, Link, pid_eq}
 use Rattle.dm_places.proofs.Names.{pid_of, PlainLink, plain_link, link_at, plain_slot, MsgId, Message, What, Label, PlainMessage, PlainWhat, plain_message, plain_what, begun_process, Format, BootImage, first_number, slots_of, bind, Alive}
 use Rattle.dm_places.proofs.Names.{OneKernel, plain_process, answer_id, answer_to, memory_of, slots_with, answer, bind-is, when-is, View, Addresses, Gets, Sender, answer_gets, given, gives, unmoved, two, child_at, only_child, child_links}
-use Rattle.dm_places.proofs.Names.{Placed, Mirrors, MirrorsMessage, MirrorsProcess, enclosed, with_child, with_sent, without_message, nat_tests}
+use Rattle.dm_places.proofs.Names.{Placed, Mirrors, MirrorsMessage, MirrorsProcess, enclosed, with_child, with_sent, without_message, nat_tests, none_some}
 use Rattle.dm_places.proofs.Keeps.{kernel_out, kernel_process, parts, places_out, places_process, there_of, this_process}
 use Rattle.dm_places.proofs.Labels.Acts.{Follows}
 use Rattle.dm_places.proofs.Labels.Answers.{two_sends}
@@ -16,8 +16,8 @@ use Rattle.dm_places.specs.PlacedStep as placed
 
 -- the slots of a process as it begins
 pub begun_link : (links : List Link) (n k : ℕ) (w : Link) → link_at (map Some links ++ replicate n None) k ≡ Some w → slice_get links k ≡ Some w
-begun_link [] zero k w e = cc
-begun_link [] (suc n) zero w e = cc
+begun_link [] zero k w e = none_some w e
+begun_link [] (suc n) zero w e = none_some w e
 begun_link [] (suc n) (suc k) w e = begun_link [] n k w e
 begun_link (x ∷ xs) n zero w e = e
 begun_link (x ∷ xs) n (suc k) w e = begun_link xs n k w e
@@ -81,7 +81,7 @@ creates_row s t v a l id m k child (PlainWhat.Create number ls) u is none hm say
       subst (λ (ks : List PlainLink). Mirrors t v (given a (answer_gets a id (unmoved v.acting) ++ child_links a child id 0 ks)) on) w.links_are
           (created_row s t v a l id m k child image links (ap (λ (ks : List PlainLink). service.creates_of s id k child ks image) w.links_are ∙ last) none hm says (ap enclosed w.is) h),
     )
-creates_row s t v a l id m k child u says is none hm there h = cc
+creates_row s t v a l id m k child _ says is none hm there h = none_some t is
 
 -- created: a process that is made now hasn't moved yet
 pub created_follows : (s t : OneKernel) (v : View) (a : Addresses) (l : Placed) (id : MsgId) (child : Pid) → kernel.step s (Label.Created id child) ≡ Some t → v.moves child ≡ 0 → Mirrors s v a l

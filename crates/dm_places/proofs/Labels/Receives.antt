@@ -3,7 +3,7 @@ use Rattle.dm_places.proofs.Names.{◌≡◌, ℕ, suc, ◌+◌, ◌==◌, ◌&&
 use Rattle.dm_places.proofs.Names.{nat_tests, map-set, Pid, Link, place_of, pid_eq, PlainLink, plain_link, first_empty, link_at, plain_slot, MsgId, Message, What, Label, PlainMessage, PlainWhat, plain_message, Process, Status, on_mask}
 use Rattle.dm_places.proofs.Names.{what_is_on, Reply, reply_eq, bind, OneKernel, plain_process, plain_status, PlainProcess, first_failed, Completed, Completion, completion, completes, completes_unless, plain_completed, first_of}
 use Rattle.dm_places.proofs.Names.{status_plainly, pid_eq-same, pid_eq-is, bind-is, when-is, View, Addresses, Gets, given, gives, Slot, Enclosed, fills, receives_links, receiving_gets, slot_after, set_at, set_off, is_empty, only_receives}
-use Rattle.dm_places.proofs.Names.{OnlySlots, Placed, Mirrors, MirrorsProcess, enclosed, with_process, without_message, and-both, at_hand-is}
+use Rattle.dm_places.proofs.Names.{OnlySlots, Placed, Mirrors, MirrorsProcess, enclosed, with_process, without_message, and-both, at_hand-is, none_some}
 use Rattle.dm_places.proofs.Keeps.{alive_of, there_of, parts, goes_mirrors, kernel_out, kernel_process, places_out, places_process, this_process}
 use Rattle.dm_places.proofs.Labels.Acts.{Follows, mirrors_as}
 use Rattle.dm_places.proofs.Whats.{user_what}
@@ -137,7 +137,7 @@ completes_what_of v a p id x m k d mask base size (PlainWhat.User code channel b
     let u_is : PlainWhat.User code channel w.body.items (map plain_link w.links.items) ≡ k.what = (λ i. PlainWhat.User code channel (w.bytes_are i) (w.links_are i)) ∙ sym is in
     let links : EnclosedFrom a id 0 w.links.items = subst (λ (u : What). EnclosedFrom a id 0 (enclosed u)) w.is en in
     search (arith, unless_kept)
-completes_what_of v a p id x m k d mask base size u waits says is h en e = cc
+completes_what_of v a p id x m k d mask base size u waits says is h en e = none_some d e
 
 completes_status_of : (v : View) (a : Addresses) (p : Pid) (id : MsgId) (x : Process) (m : Message) (k : PlainMessage) (d : one.Completed) (st : Status) → x.status ≡ st → plain_message m ≡ Some k → MirrorsProcess v a p x → EnclosedFrom a id 0 (enclosed m.what)
     → one.completes_status p (plain_process x) k (plain_status st) ≡ Some d → Completes v a p id x m k.what d
@@ -187,7 +187,7 @@ receive_row s t v a l p id (one.Receives z) w f h =
           [ Completed.Received i ↦ λ e_. cc | Completed.Refused r ↦ λ e_. cc ]) w.plain) ∙ eq) (ap (given a) gs_is) refl
           ((search (arith, kernel_process, kernel_out, places_process, places_out, this_process))),
     )
-receive_row s t v a l p id (one.Refuses c z) w f h = cc
+receive_row s t v a l p id (one.Refuses c z) w f h = none_some t f
 
 pub receive_follows : (s t : OneKernel) (v : View) (a : Addresses) (l : Placed) (p : Pid) (id : MsgId) → kernel.step s (Label.Receive p id) ≡ Some t → Mirrors s v a l
     → Follows t v (given a (gives s v a (Label.Receive p id))) (bind (placed.completed l p id) (λ (e : Completion). Some (with_process (without_message l id) p (Some e.process))))
@@ -198,7 +198,7 @@ receive_follows s t v a l p id is h =
 -- refuse
 refuse_row : (s t : OneKernel) (v : View) (a : Addresses) (l : Placed) (p : Pid) (id : MsgId) (r : Reply) (d : one.Completed) → CompletingOf s v a l p id d → kernel.refuses s p r d ≡ Some t → Mirrors s v a l
     → Follows t v a (bind (placed.completed l p id) (λ (e : Completion). Some (with_process l p (Some e.process))))
-refuse_row s t v a l p id r (one.Receives z) w f h = cc
+refuse_row s t v a l p id r (one.Receives z) w f h = none_some t f
 refuse_row s t v a l p id r (one.Refuses c z) w f h =
     let k = when-is (reply_eq r c) (kernel.goes_on s p z) t f in
     let y = w.e.process in

@@ -3,7 +3,7 @@ use Rattle.dm_places.proofs.Names.{◌≡◌, ℕ, ◌+◌, ◌==◌, Bool, true
 use Rattle.dm_places.proofs.Names.{PlainMessage, PlainWhat, plain_message, plain_what, Process, Direction, Status, Reply, bind, Ended, OneKernel, plain_process, plain_status, PlainProcess, answer_to, piece_of, written_at, Rest, Landed}
 use Rattle.dm_places.proofs.Names.{Landing, plain_landed, after_serving, answer, answer_of, answer_with, serving_answer, ends_plainly, goes_on_plainly, bind-is, View, Addresses, Gets, answer_gets, given, gives, acting_place, serving_gets}
 use Rattle.dm_places.proofs.Names.{Owner, two, gone_lands, nothing_lands, Placed, Mirrors, MirrorsMessage, MirrorsProcess, enclosed, owner_at, after_landing, with_process, with_sent, without_message, some_is, landing_gets, at_hand-is}
-use Rattle.dm_places.proofs.Names.{option_map_or, arith}
+use Rattle.dm_places.proofs.Names.{option_map_or, arith, none_some}
 use Rattle.dm_places.proofs.Keeps.{alive_of, ends_mirrors, goes_mirrors, out_mirrors, parts, there_of}
 use Rattle.dm_places.proofs.Labels.Calls.{stands_here}
 use Rattle.dm_places.proofs.Labels.Acts.{Follows}
@@ -70,7 +70,7 @@ lands_of : (v : View) (a : Addresses) (p : Pid) (x : Process) (m : Message) (u :
     → pieces.lands p (plain_process x) (plainly m u) (plain_status st) ≡ Some c → Lands v a p x (landing.landing v.acting x m.what st) c
 lands_of v a p x m u (Status.Moving dir owner base own left pending) c st is h e =
     lands_if v a p x (m.id.n == pending) dir owner base own left m.what u c is h (h.owner owner (ap owner_at st)) e
-lands_of v a p x m u _ c st is h e = cc
+lands_of v a p x m u _ c st is h e = none_some c e
 
 landed_mirrors : (s : OneKernel) (v : View) (a : Addresses) (l : Placed) (id : MsgId) (m : Message) (u : PlainWhat) (w : Landed) (y : Process) (c : pieces.Landed) → plain_landed w y ≡ Some c → LandedKept v a m.to.pid w y → Mirrors s v a l
     → Mirrors (service.landed s id (plainly m u) c) v (given a (landing_gets v a m.to.pid (Some c))) (after_landing (without_message l id) m.to.pid w y)
@@ -191,7 +191,7 @@ serve_row s t v a l id m x said.Written says is hm hx h =
 serve_row s t v a l id m x said.Gone says is hm hx h =
     let (on, step, mirrors) = gone_row s t v a l id m x says hx h is in
     (on, ap (placed.serves v.acting (without_message l id) m x) (gone_what m.what says) ∙ step, mirrors)
-serve_row s t v a l id m x u says is hm hx h = cc
+serve_row s t v a l id m x u says is hm hx h = none_some t is
 
 -- served
 pub served_follows : (s t : OneKernel) (v : View) (a : Addresses) (l : Placed) (id : MsgId) → kernel.step s (Label.Served id) ≡ Some t → Mirrors s v a l

@@ -3,7 +3,7 @@ use Rattle.dm_places.proofs.Names.{◌≡◌, ℕ, ◌+◌, Bool, true, false, L
 use Rattle.dm_places.proofs.Names.{pid_eq, place_of, PlainLink, plain_link, MsgId, Message, What, id_of, Label, PlainMessage, PlainWhat, plain_message, plain_what, manager, switchboard, bind, Manager, OneKernel, goes_over, Pending}
 use Rattle.dm_places.proofs.Names.{Managing, at_home, plain_child, plain_manager, plain_pending, answer_over, control_link, Taken, child_address, pending_request, plain_bear, plain_pending_numbered, plain_without, id_eq-same, bind-is, View}
 use Rattle.dm_places.proofs.Names.{Addresses, Gets, gets, given, gives, Receiver, Sender, Enclosed, Child, Name, Answer, acting_place, unmoved, board_gets, manager_answers, manager_sends, manager_gets, SameProcess, SameMessage, Placed, Mirrors}
-use Rattle.dm_places.proofs.Names.{MirrorsKernel, MirrorsMessage, enclosed, board_took, manager_took, without_message, AnswerNames, AskedBy, ToBoard, Outcome, code_of_outcome}
+use Rattle.dm_places.proofs.Names.{MirrorsKernel, MirrorsMessage, enclosed, board_took, manager_took, without_message, AnswerNames, AskedBy, ToBoard, Outcome, code_of_outcome, none_some}
 use Rattle.dm_places.proofs.Keeps.{answer_as, came_places, kernel_out, kernel_sent, manager_place, message_same, parts, place_after, places_out, process_same, there_of}
 use Rattle.dm_places.proofs.Labels.Acts.{Follows}
 use Rattle.dm_places.proofs.Labels.Boards.{board_row}
@@ -108,7 +108,7 @@ created_by : (s : OneKernel) (v : View) (a : Addresses) (l : Placed) (id : MsgId
     → (one.takes_answer s.manager n (s.manager.children ++ child ∷ []) 0 (one.control_link (length s.manager.children + 1) ∷ [])) (option_map plain_pending p) ≡ Some k
     → InOrder l.manager → Mirrors s v a l
     → TookTo s v (given a (gets (Child (length s.manager.children + 1)) (unmoved child.home) ∷ manager_answers v a n k.message)) l id k (take.takes_created v.acting l.manager n child p)
-created_by s v a l id n child None k is e order h = cc
+created_by s v a l id n child None k is e order h = none_some k e
 created_by s v a l id n child (Some r) k is e order h =
     let cs = l.manager.children in
     let w = control_link v.acting l.manager.moves (length cs + 1) in
@@ -155,7 +155,7 @@ ended_by s v a l id n byte r k is f order h =
 no_room_by : (s : OneKernel) (v : View) (a : Addresses) (l : Placed) (id : MsgId) (n : ℕ) (p : Option Pending) (k : one.ManagerTook) → pending_request n l.manager.pending ≡ p
     → (one.takes_answer s.manager n s.manager.children 1 []) (option_map plain_pending p) ≡ Some k
     → InOrder l.manager → Mirrors s v a l → TookTo s v (given a (manager_answers v a n k.message)) l id k (take.takes_no_room v.acting l.manager n p)
-no_room_by s v a l id n None k is e order h = cc
+no_room_by s v a l id n None k is e order h = none_some k e
 no_room_by s v a l id n (Some r) k is e order h =
     let after : Manager = record s.manager { pending = one.without_pending n s.manager.pending } in
     ended_by s v a l id n 1 r k is (let f : one.answers_over after (option_map plain_link r.answer) 1 [] ≡ k = cc in f) order h
@@ -163,7 +163,7 @@ no_room_by s v a l id n (Some r) k is e order h =
 moved_by : (s : OneKernel) (v : View) (a : Addresses) (l : Placed) (id : MsgId) (n : ℕ) (outcome : Outcome) (p : Option Pending) (k : one.ManagerTook) → pending_request n l.manager.pending ≡ p
     → (one.takes_answer s.manager n s.manager.children (code_of_outcome outcome) []) (option_map plain_pending p) ≡ Some k → InOrder l.manager → Mirrors s v a l
     → TookTo s v (given a (manager_answers v a n k.message)) l id k (take.takes_moved v.acting l.manager n outcome p)
-moved_by s v a l id n outcome None k is e order h = cc
+moved_by s v a l id n outcome None k is e order h = none_some k e
 moved_by s v a l id n outcome (Some r) k is e order h =
     let after : Manager = record s.manager { pending = one.without_pending n s.manager.pending } in
     ended_by s v a l id n (code_of_outcome outcome) r k is (let f : one.answers_over after (option_map plain_link r.answer) (code_of_outcome outcome) [] ≡ k = cc in f) order h
@@ -231,7 +231,7 @@ manager_row s t v a l id m k (PlainWhat.Moved outcome) name says hm order h e =
       subst (λ (x : OneKernel). Mirrors x v (given a (manager_gets s v a k (PlainWhat.Moved outcome) o)) on) f
           (subst (λ (x : Option one.ManagerTook). Mirrors (service.manager_took s id z) v (given a (manager_gets s v a k (PlainWhat.Moved outcome) x)) on) (sym took) r.mirrors),
     )
-manager_row s t v a l id m k u name says hm order h e = cc
+manager_row s t v a l id m k u name says hm order h e = none_some t e
 
 -- what the two take with places
 abbrev takes_if : Bool → Bool → ℕ → Placed → MsgId → Message → Option Placed
@@ -247,7 +247,7 @@ takes_by : (s t : OneKernel) (v : View) (a : Addresses) (l : Placed) (id : MsgId
     → Follows t v (given a (if b then board_gets s v a id k.what else manager_gets s v a k k.what (one.manager_takes s.manager s.machines (length s.images) k k.what))) (takes_if b c v.acting l id m)
 takes_by s t v a l id m k true c says hm order h e = board_row s t v a l id m k k.what (parts m k says).what hm h e
 takes_by s t v a l id m k false true says hm order h e = let g = parts m k says in manager_row s t v a l id m k k.what g.id g.what hm order h e
-takes_by s t v a l id m k false false says hm order h e = cc
+takes_by s t v a l id m k false false says hm order h e = none_some t e
 
 -- took
 pub took_follows : (s t : OneKernel) (v : View) (a : Addresses) (l : Placed) (id : MsgId) → kernel.step s (Label.Took id) ≡ Some t → InOrder l.manager → Mirrors s v a l

@@ -2,7 +2,7 @@
 use Rattle.dm_rule.proofs.Names.{◌≡◌, ℕ, zero, suc, ◌||◌, Bool, true, false, List, [], ◌∷◌, refl, ap, ◌∙◌, sym, subst, arith, nat_lt, ⊤, if◌then◌else◌, map, slice_get, slice_set, filter_map, cons_option, is_none, Option, None, Some, Pid}
 use Rattle.dm_rule.proofs.Names.{Place, pid_eq, PlainLink, first_empty, link_at, MsgId, id_eq, id_of, PlainMessage, Direction, direction_numbered, Regs, Row, instruction, past, Reply, PlainProcess, reg, setting, OneKernel, CallNumber}
 use Rattle.dm_rule.proofs.Names.{Called, Replies, Sends, Waits, Outputs, Ends, first_failed, pid_eq-same, id_eq-same, bind-is, View, Addresses, Gets, gets, given, Slot, Owner, Receiver, Sender, acting_place, encloses, fills, fills_by}
-use Rattle.dm_rule.proofs.Names.{sending_gets, owner_in, links_in, or_parts}
+use Rattle.dm_rule.proofs.Names.{sending_gets, owner_in, links_in, or_parts, none_some}
 use Rattle.dm_rule.proofs.Homes.{place_as, pid_as, HomeProcess, HomeMessage, AtHome}
 use Rattle.dm_rule.proofs.Homes.Slots.{set_link, emptied_link, without_replies_link, past_call}
 use Rattle.dm_rule.proofs.Homes.Rows.{SameProcess, SameMessage, SameServers, running_home, encloses_servers, encloses_process, encloses_message, encloses_at}
@@ -90,7 +90,7 @@ listed_step P a p x s ss zero l (Some w) h is some rest e = let f : w ≡ l = cc
 listed_step P a p x s ss (suc k) l (Some w) h is some rest e = let r = rest k e in record { place = r.place; there = r.there; is = r.is }
 
 listed_home : (P : Pid → Place → Type 0) (a : Addresses) (p : Pid) (x : PlainProcess) (ss : List ℕ) (k : ℕ) (l : PlainLink) → HomeProcess P a p x → calls.any_empty x.links ss ≡ false → slice_get (filter_map (link_at x.links) ss) k ≡ Some l → Listed P a p ss k l
-listed_home P a p x [] k l h some e = cc
+listed_home P a p x [] k l h some e = none_some l e
 listed_home P a p x (s ∷ ss) k l h some e =
     listed_step P a p x s ss k l (link_at x.links s) h refl (or_parts (is_none (link_at x.links s)) (calls.any_empty x.links ss) some).0
     (λ j f. listed_home P a p x ss j l h (or_parts (is_none (link_at x.links s)) (calls.any_empty x.links ss) some).1 f) e
@@ -157,7 +157,7 @@ HomeNext P v a p x (kernel.Calls number called) = HomeCalled P v a p x (calls.ca
 HomeNext P v a p x (kernel.Faults fault) = ⊤
 
 next_row_home : (P : Pid → Place → Type 0) (v : View) (a : Addresses) (p : Pid) (x : PlainProcess) (w : Row) (n : kernel.Trap) → instruction x.regs x.memory ≡ w → kernel.next_row p x w ≡ Some n → P p (acting_place v p) → HomeProcess P a p x → HomeNext P v a p x n
-next_row_home P v a p x (Row.Plain regs bytes) n w e is h = cc
+next_row_home P v a p x (Row.Plain regs bytes) n w e is h = none_some n e
 next_row_home P v a p x (Row.Calls number regs) n w e is h =
     let g : kernel.Calls number (calls.call p (record x { regs = regs }) number) ≡ n = cc in
     subst (HomeNext P v a p x) (ap (λ (r : Regs). kernel.Calls number (calls.call p (record x { regs = r }) number)) (sym (past_call x.regs x.memory number regs w)) ∙ g) (does_call_home P v a p x (calls.call_number number) is h)

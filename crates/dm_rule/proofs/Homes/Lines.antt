@@ -2,7 +2,7 @@
 use Rattle.dm_rule.proofs.Names.{◌≡◌, ℕ, ◌+◌, ◌≤◌, ◌==◌, ◌&&◌, Bool, true, false, List, [], ◌∷◌, length, refl, ap, ◌∙◌, sym, subst, is_some, arith, nat_le, if◌then◌else◌, Option, None, Some, nat_tests, Pid, Place, MsgId, MessageKind}
 use Rattle.dm_rule.proofs.Names.{plain_kind, PlainMessage, Boot, Label, IsValid, OneKernel, entry, in_bag, reception, Sound, bind-is, after_step, start-sound, Line, Load, untaken, View, Pair, Told, after_label, after_put, handled, are_home}
 use Rattle.dm_rule.proofs.Names.{PlainWhat, BootProcess, known_at, Addresses, Receiver, Gets, given, own_given, first_gives, Point, first_point, after, after_line, moved, Routes, lines_of, puts, packet_line, goes_out, act_of, addresses_by}
-use Rattle.dm_rule.proofs.Names.{Homes, is_for_home, gives, topic_by, About, sort_of, moved_back, without, served_told, ends_by}
+use Rattle.dm_rule.proofs.Names.{Homes, is_for_home, gives, topic_by, About, sort_of, moved_back, without, served_told, ends_by, none_some}
 use Rattle.std.proofs.Common.{is_none}
 use Rattle.dm_rule.proofs.Homes.{IsHome, AtHome, homes_are}
 use Rattle.dm_rule.proofs.Homes.Start.{start_at_home, Homes-start}
@@ -50,7 +50,7 @@ pub record Kept (m : ℕ) (pt : Point) : Type 0 where
 
 old_of : (a b : Option PlainMessage) (e : ℕ) (x : PlainMessage) → nat_le 1 e ≡ true → e + (if is_none a && is_some b then 1 else 0) ≤ 1 → b ≡ Some x → ((y : PlainMessage) → a ≡ Some y → y ≡ x) → a ≡ Some x
 old_of (Some y) b e x entered once there same = ap Some (same y refl)
-old_of None None e x entered once there same = cc
+old_of None None e x entered once there same = none_some x there
 old_of None (Some z) e x entered once there same = absurd (let f : 1 ≤ e = grind (arith, nat_tests) in omega (arith, f, once))
 
 -- a label

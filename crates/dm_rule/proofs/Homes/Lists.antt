@@ -1,7 +1,7 @@
 -- Each message stands where its receiver is at home: what lines do to the lists that messages stand in.
 use Rattle.dm_rule.proofs.Names.{◌≡◌, ℕ, zero, suc, ◌+◌, ◌≤◌, ◌==◌, ◌&&◌, Bool, true, false, List, [], ◌∷◌, ◌++◌, drop, refl, ap, ◌∙◌, sym, arith, nat_le, if◌then◌else◌, slice_get, Option, None, Some, nat_tests, Pid, MsgId, id_eq}
 use Rattle.dm_rule.proofs.Names.{MessageKind, PlainMessage, Label, OneKernel, at_machine, at_pair, at_record, without_id, without_front, untaken, View, Pair, after_label, served_told, ends_by, handled, taken_id, is_for_home, are_for_home}
-use Rattle.dm_rule.proofs.Names.{both_true, sort_of, and_parts}
+use Rattle.dm_rule.proofs.Names.{both_true, sort_of, and_parts, none_some}
 use Rattle.dm_rule.specs.View as view
 
 -- each of these messages has entered, and is for a receiver of this home as long as it is in the bag
@@ -45,7 +45,7 @@ drop_one s e m zero (j ∷ js) h = (and_parts (stands s e m j) (all_stand s e m 
 drop_one s e m (suc n) (j ∷ js) h = drop_one s e m n js h
 
 pub drop_first : (s : OneKernel) (e : MsgId → ℕ) (m n : ℕ) (is : List MsgId) (i : MsgId) → slice_get is n ≡ Some i → all_stand s e m (drop n is) ≡ true → stands s e m i ≡ true
-drop_first s e m n [] i f h = cc
+drop_first s e m n [] i f h = none_some i f
 drop_first s e m zero (j ∷ js) i f h = let k : j ≡ i = cc in ap (stands s e m) (sym k) ∙ (and_parts (stands s e m j) (all_stand s e m js) h).0
 drop_first s e m (suc n) (j ∷ js) i f h = drop_first s e m n js i f h
 

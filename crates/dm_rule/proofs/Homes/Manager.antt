@@ -2,7 +2,7 @@
 use Rattle.dm_rule.proofs.Names.{◌≡◌, ℕ, zero, suc, ◌+◌, ◌==◌, ◌&&◌, Bool, true, false, List, [], ◌∷◌, ◌++◌, refl, ap, ◌∙◌, sym, subst, inl, inr, arith, nat_lt, length, if◌then◌else◌, slice_get, Option, None, Some, nat_tests, Pid, Place}
 use Rattle.dm_rule.proofs.Names.{Holder, Slot, pid_eq, PlainLink, MsgId, id_of, Label, PlainMessage, PlainWhat, bind, OneKernel, without_message, id_eq-same, bind-is, View, Addresses, Gets, gets, given, gives, Receiver, Sender, Enclosed}
 use Rattle.dm_rule.proofs.Names.{unmoved, pid_of, ◌*◌, Pending, Manager, switchboard, manager, Child, Name, Answer, encloses, enclosed_from, board_gets, manager_sends, manager_answers, manager_gets, links_in, ascends, AskedBy, ToBoard, acting_place, pid_eq-is, Outcome}
-use Rattle.dm_rule.proofs.Names.{code_of_outcome, PendingKind, fun_ext, option_map_or}
+use Rattle.dm_rule.proofs.Names.{code_of_outcome, PendingKind, fun_ext, option_map_or, none_some}
 use Rattle.dm_rule.proofs.Homes.{place_as, pid_as, AtHome}
 use Rattle.dm_rule.proofs.Homes.Rows.{SameProcess, SameMessage, sent_home, at_home_out, process_same, message_same, encloses_servers, encloses_process, encloses_message, encloses_at}
 use Rattle.dm_rule.proofs.Homes.Serves.{two, two_sends, Named, ServedAt}
@@ -39,7 +39,7 @@ bad_home P s v a id mid code (l ∷ ls) en at h =
     two_sends P (record (without_message s id) { manager = record s.manager { sent = s.manager.sent + 1 } }) a m (a (Enclosed mid 0)) (acting_place v manager) (counted P s a id h) refl (en 0 l refl) at
 
 pub enclosed_at : (a : Addresses) (id : MsgId) (n : ℕ) (ls : List PlainLink) (k : ℕ) (w : PlainLink) → slice_get ls k ≡ Some w → slice_get (enclosed_from a id n ls) k ≡ Some (a (Enclosed id (n + k)))
-enclosed_at a id n [] k w e = cc
+enclosed_at a id n [] k w e = none_some w e
 enclosed_at a id n (l ∷ ls) zero w e = let f : n ≡ n + 0 = omega arith in ap (λ (i : ℕ). Some (a (Enclosed id i))) f
 enclosed_at a id n (l ∷ ls) (suc k) w e = let f : (n + 1) + k ≡ n + suc k = omega arith in enclosed_at a id (n + 1) ls k w e ∙ ap (λ (i : ℕ). Some (a (Enclosed id i))) f
 
@@ -218,7 +218,7 @@ over_child P t a v n k pl g byte ls (Some l) w =
 
 created_by : (P : Pid → Place → Type 0) (s : OneKernel) (v : View) (a : Addresses) (id : MsgId) (m : PlainMessage) (child : Pid) (o : Option Pending) (k : manage.ManagerTook) → manage.pending_numbered m.id.n s.manager.pending ≡ o → (manage.takes_answer s.manager m.id.n (s.manager.children ++ child ∷ []) 0 (manage.control_link (length s.manager.children + 1) ∷ [])) o ≡ Some k
     → P manager (acting_place v manager) → AtHome P s a → AtHome P (service.manager_took s id k) (given a (gets (Child (length s.manager.children + 1)) (unmoved child.home) ∷ manager_answers v a m.id.n k.message))
-created_by P s v a id m child None k is e at h = cc
+created_by P s v a id m child None k is e at h = none_some k e
 created_by P s v a id m child (Some r) k is e at h =
     let g = record s.manager { children = s.manager.children ++ child ∷ []; pending = manage.without_pending m.id.n s.manager.pending } in
     let l = manage.control_link (length s.manager.children + 1) in
@@ -241,14 +241,14 @@ ended_by P s v a id n byte r k is f at h =
 
 no_room_by : (P : Pid → Place → Type 0) (s : OneKernel) (v : View) (a : Addresses) (id : MsgId) (n : ℕ) (o : Option Pending) (k : manage.ManagerTook) → manage.pending_numbered n s.manager.pending ≡ o → (manage.takes_answer s.manager n s.manager.children 1 []) o ≡ Some k
     → P manager (acting_place v manager) → AtHome P s a → AtHome P (service.manager_took s id k) (given a (manager_answers v a n k.message))
-no_room_by P s v a id n None k is e at h = cc
+no_room_by P s v a id n None k is e at h = none_some k e
 no_room_by P s v a id n (Some r) k is e at h =
     let g = record s.manager { pending = manage.without_pending n s.manager.pending } in
     ended_by P s v a id n 1 r k is (let f : manage.answers_over g r.answer 1 [] ≡ k = cc in f) at h
 
 moved_by : (P : Pid → Place → Type 0) (s : OneKernel) (v : View) (a : Addresses) (id : MsgId) (n : ℕ) (outcome : Outcome) (o : Option Pending) (k : manage.ManagerTook) → manage.pending_numbered n s.manager.pending ≡ o
     → (manage.takes_answer s.manager n s.manager.children (code_of_outcome outcome) []) o ≡ Some k → P manager (acting_place v manager) → AtHome P s a → AtHome P (service.manager_took s id k) (given a (manager_answers v a n k.message))
-moved_by P s v a id n outcome None k is e at h = cc
+moved_by P s v a id n outcome None k is e at h = none_some k e
 moved_by P s v a id n outcome (Some r) k is e at h =
     let g = record s.manager { pending = manage.without_pending n s.manager.pending } in
     ended_by P s v a id n (code_of_outcome outcome) r k is (let f : manage.answers_over g r.answer (code_of_outcome outcome) [] ≡ k = cc in f) at h
@@ -282,7 +282,7 @@ manager_row P s t v a id m (PlainWhat.Moved outcome) is name there at h e =
     subst (λ (u : OneKernel). AtHome P u (given a (manager_gets s v a m (PlainWhat.Moved outcome) o))) (let f : service.manager_took s id k ≡ t = cc in f)
     (subst (λ (p : Option manage.ManagerTook). AtHome P (service.manager_took s id k) (given a (manager_gets s v a m (PlainWhat.Moved outcome) p))) (sym took)
     (moved_by P s v a id m.id.n outcome (manage.pending_numbered m.id.n s.manager.pending) k refl took at h))
-manager_row P s t v a id m _ is name there at h e = cc
+manager_row P s t v a id m _ is name there at h e = none_some t e
 
 -- a server acts where its message has come
 at_server : (P : Pid → Place → Type 0) (v : View) (p q : Pid) → pid_eq p q ≡ true → P p (acting_place v p) → P q (acting_place v q)
@@ -295,7 +295,7 @@ takes_by : (P : Pid → Place → Type 0) (s t : OneKernel) (v : View) (a : Addr
     → AtHome P t (given a (if b then board_gets s v a id m.what else manager_gets s v a m m.what (manage.manager_takes s.manager s.machines (length s.images) m m.what)))
 takes_by P s t v a id m true c is as_ name there at h e = board_row P s t v a id m m.what refl there (at_server P v m.to switchboard is at) h e
 takes_by P s t v a id m false true is as_ name there at h e = manager_row P s t v a id m m.what refl name there (at_server P v m.to manager as_ at) h e
-takes_by P s t v a id m false false is as_ name there at h e = cc
+takes_by P s t v a id m false false is as_ name there at h e = none_some t e
 
 pub took_home : (P : Pid → Place → Type 0) (s t : OneKernel) (v : View) (a : Addresses) (id : MsgId) → kernel.step s (Label.Took id) ≡ Some t → Named s → ServedAt P s v id → AtHome P s a → AtHome P t (given a (gives s v a (Label.Took id)))
 took_home P s t v a id is named at h =

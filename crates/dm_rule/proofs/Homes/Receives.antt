@@ -1,5 +1,5 @@
 -- Receives keep addresses where they may be.
-use Rattle.dm_rule.proofs.Names.{◌≡◌, ℕ, zero, suc, ◌+◌, ◌==◌, ◌&&◌, Bool, true, false, List, [], ◌∷◌, ◌++◌, refl, ap, ◌∙◌, sym, subst, inl, inr, arith, nat_lt, length, if◌then◌else◌, cond, slice_get, slice_set, is_none, position_or_len}
+use Rattle.dm_rule.proofs.Names.{◌≡◌, ℕ, zero, suc, ◌+◌, ◌==◌, ◌&&◌, Bool, true, false, List, [], ◌∷◌, ◌++◌, refl, ap, ◌∙◌, sym, subst, inl, inr, arith, nat_lt, length, if◌then◌else◌, cond, slice_get, slice_set, is_none, position_or_len, none_some}
 use Rattle.dm_rule.proofs.Names.{Option, None, Some, cases_Bool, false≢true, nat_tests, Pid, Place, pid_eq, PlainLink, first_empty, link_at, MsgId, Label, PlainMessage, PlainWhat, on_mask, Reply, bind, PlainProcess, PlainStatus, Waiting}
 use Rattle.dm_rule.proofs.Names.{Alive, OneKernel, first_failed, without_message, pid_eq-same, bind-is, when-is, View, Addresses, Gets, given, gives, Slot, Enclosed, fills, receives_links, receiving_gets, slot_after, links_in, at_hand-is}
 use Rattle.dm_rule.proofs.Homes.{place_as, pid_as, HomeProcess, AtHome}
@@ -114,23 +114,23 @@ completes_home P a p id x base code channel body links None h en = record {
 
 completes_if : (P : Pid → Place → Type 0) (a : Addresses) (p : Pid) (id : MsgId) (x : PlainProcess) (b : Bool) (w : PlainWhat) (c d : receiving.Completed) → HomeCompleted P a p id x w c → (if b then Some c else None) ≡ Some d → HomeCompleted P a p id x w d
 completes_if P a p id x true w c d h e = let f : c ≡ d = cc in subst (HomeCompleted P a p id x w) f h
-completes_if P a p id x false w c d h e = cc
+completes_if P a p id x false w c d h e = none_some d e
 
 completes_what_home : (P : Pid → Place → Type 0) (a : Addresses) (p : Pid) (id : MsgId) (x : PlainProcess) (m : PlainMessage) (mask base size : ℕ) (w : PlainWhat) (d : receiving.Completed) → HomeProcess P a p x → EnclosedHome P a id 0 (links_in w)
     → receiving.completes_what p x m mask base size w ≡ Some d → HomeCompleted P a p id x w d
 completes_what_home P a p id x m mask base size (PlainWhat.User code channel body links) d h en e =
     completes_if P a p id x (pid_eq m.to p && on_mask mask channel) (PlainWhat.User code channel body links) (receiving.completes x base size code channel body links) d
     (completes_home P a p id x base code channel body links (first_failed (receiving.receive_refusals x size body links)) h en) e
-completes_what_home P a p id x m mask base size _ d h en e = cc
+completes_what_home P a p id x m mask base size _ d h en e = none_some d e
 
 completes_status_home : (P : Pid → Place → Type 0) (a : Addresses) (p : Pid) (id : MsgId) (x : PlainProcess) (m : PlainMessage) (st : PlainStatus) (d : receiving.Completed) → HomeProcess P a p x → EnclosedHome P a id 0 (links_in m.what)
     → receiving.completes_status p x m st ≡ Some d → HomeCompleted P a p id x m.what d
 completes_status_home P a p id x m (Waiting mask base size) d h en e = completes_what_home P a p id x m mask base size m.what d h en e
-completes_status_home P a p id x m _ d h en e = cc
+completes_status_home P a p id x m _ d h en e = none_some d e
 
 completes_with_home : (P : Pid → Place → Type 0) (a : Addresses) (p : Pid) (id : MsgId) (x : PlainProcess) (m : PlainMessage) (b : Bool) (d : receiving.Completed) → HomeProcess P a p x → EnclosedHome P a id 0 (links_in m.what)
     → (if b then None else receiving.completes_status p x m x.status) ≡ Some d → HomeCompleted P a p id x m.what d
-completes_with_home P a p id x m true d h en e = cc
+completes_with_home P a p id x m true d h en e = none_some d e
 completes_with_home P a p id x m false d h en e = completes_status_home P a p id x m x.status d h en e
 
 record Completing (P : Pid → Place → Type 0) (s : OneKernel) (a : Addresses) (p : Pid) (id : MsgId) (d : receiving.Completed) : Type 0 where
@@ -161,7 +161,7 @@ receive_row P s t v a p id (receiving.Receives y) w e h =
     subst (λ (u : OneKernel). AtHome P u (given a (gives s v a (Label.Receive p id)))) (let eq : kernel.goes_on (without_message s id) p y ≡ t = cc in eq)
     (subst (λ (g : List Gets). AtHome P (kernel.goes_on (without_message s id) p y) (given a g)) gs_is
     (at_home_process P (without_message s id) a (given a gs) p (Alive y) (at_home_out P s a id h) o.others (alive_on P (given a gs) p y w.home.process) o.messages o.servers))
-receive_row P s t v a p id (receiving.Refuses c y) w e h = cc
+receive_row P s t v a p id (receiving.Refuses c y) w e h = none_some t e
 
 pub receive_home : (P : Pid → Place → Type 0) (s t : OneKernel) (v : View) (a : Addresses) (p : Pid) (id : MsgId) → kernel.step s (Label.Receive p id) ≡ Some t → AtHome P s a → AtHome P t (given a (gives s v a (Label.Receive p id)))
 receive_home P s t v a p id is h =

@@ -1,7 +1,7 @@
 -- What processes do keeps addresses where they may be.
 use Rattle.dm_rule.proofs.Names.{◌≡◌, ℕ, zero, suc, ◌+◌, ◌==◌, ◌&&◌, Bool, true, false, List, [], ◌∷◌, refl, ap, ◌∙◌, sym, subst, inl, inr, arith, if◌then◌else◌, slice_get, None, Some, cases_Bool, nat_tests, Pid, Place, pid_eq, MsgId}
 use Rattle.dm_rule.proofs.Names.{id_eq, PlainMessage, PlainProcess, Life, Alive, OneKernel, with_process, with_sent, without_message, pid_eq-is, id_eq-is, id_eq-same, sent_at, sent_off, stayed, bind-is, Addresses, given, Slot, Owner}
-use Rattle.dm_rule.proofs.Names.{Receiver, Sender, Enclosed, Child, Name, Answer, AskedBy, ToBoard, encloses, at_hand-is}
+use Rattle.dm_rule.proofs.Names.{Receiver, Sender, Enclosed, Child, Name, Answer, AskedBy, ToBoard, encloses, at_hand-is, none_some}
 use Rattle.dm_onekernel.specs.Step as kernel
 use Rattle.dm_rule.proofs.Homes.{place_as, HomeProcess, HomeMessage, AtHome}
 
@@ -89,7 +89,7 @@ home_goes P s a p y h k = at_home_goes P s a p (Alive y) h (alive_on P a p y k)
 
 -- the process that executes
 running_home_if : (P : Pid → Place → Type 0) (a : Addresses) (p : Pid) (y : PlainProcess) (c : Bool) (x : PlainProcess) → HomeProcess P a p y → (if c then None else Some y) ≡ Some x → HomeProcess P a p x
-running_home_if P a p y true x h e = cc
+running_home_if P a p y true x h e = none_some x e
 running_home_if P a p y false x h e = let f : y ≡ x = cc in subst (HomeProcess P a p) f h
 
 pub running_home : (P : Pid → Place → Type 0) (s : OneKernel) (a : Addresses) (p : Pid) (x : PlainProcess) → AtHome P s a → kernel.running s p ≡ Some x → HomeProcess P a p x
@@ -150,7 +150,7 @@ encloses_message a id n ps i e = record { receiver = encloses_receiver a id n ps
 
 -- the k-th of them has its place
 pub encloses_at : (a : Addresses) (id : MsgId) (n : ℕ) (ps : List Place) (k j : ℕ) (p : Place) → slice_get ps k ≡ Some p → j ≡ n + k → given a (encloses id n ps) (Enclosed id j) ≡ p
-encloses_at a id n [] k j p e f = cc
+encloses_at a id n [] k j p e f = none_some p e
 encloses_at a id n (x ∷ ps) zero j p e f =
     let is : x ≡ p = cc in ap (λ (c : Bool). if c then x else given a (encloses id (n + 1) ps) (Enclosed id j)) (let same : (id_eq id id && (n == j)) ≡ true = let g = id_eq-same id in grind (arith, nat_tests) in same) ∙ is
 encloses_at a id n (x ∷ ps) (suc k) j p e f =

@@ -1,7 +1,7 @@
 -- What servers do keeps addresses where they may be.
 use Rattle.dm_rule.proofs.Names.{◌≡◌, ℕ, zero, suc, ◌+◌, ◌==◌, ◌&&◌, Bool, true, false, List, [], ◌∷◌, ◌++◌, refl, ap, ◌∙◌, sym, subst, ◌⊎◌, inl, inr, arith, nat_lt, nat_le, length, if◌then◌else◌, slice_get, Option, None, Some, cases_Bool}
 use Rattle.dm_rule.proofs.Names.{nat_tests, Pid, Place, PlainLink, MsgId, id_eq, id_of, PlainMessage, PlainWhat, bind, OneKernel, without_message, id_eq-same, View, Addresses, gets, given, Enclosed, NamedLink, Pending, switchboard}
-use Rattle.dm_rule.proofs.Names.{is_general, Child, Name, Answer, AskedBy, ToBoard, acting_place, place_named, board_finds, board_keeps, board_gets, links_in, ascends, and_parts, bytes_eq, option_map_or}
+use Rattle.dm_rule.proofs.Names.{is_general, Child, Name, Answer, AskedBy, ToBoard, acting_place, place_named, board_finds, board_keeps, board_gets, links_in, ascends, and_parts, bytes_eq, option_map_or, none_some}
 use Rattle.dm_rule.proofs.Homes.{place_as, pid_as, AtHome}
 use Rattle.dm_rule.proofs.Homes.Rows.{SameProcess, SameMessage, sent_home, at_home_out, process_same}
 use Rattle.dm_rule.proofs.Homes.Serves.{two, two_off}
@@ -61,7 +61,7 @@ ascends_without (p ∷ ps) from to n e =
     ]
 
 pub numbered_from : (ps : List Pending) (from to n : ℕ) (r : Pending) → ascends from ps to ≡ true → manage.pending_numbered n ps ≡ Some r → (nat_le from n ≡ true) × (nat_lt n to ≡ true)
-numbered_from [] from to n r e f = cc
+numbered_from [] from to n r e f = none_some r f
 numbered_from (p ∷ ps) from to n r e f =
     let k = and_parts (nat_le from p.n) (ascends (p.n + 1) ps to) e in
     let first = k.0 in
@@ -139,7 +139,7 @@ pub record FoundAt (name : List ℕ) (names : List NamedLink) (n : ℕ) (l : Pla
   pub place : place_named name names n ≡ n + i
 
 pub found_at : (name : List ℕ) (names : List NamedLink) (n : ℕ) (l : PlainLink) → board.link_named name names ≡ Some l → FoundAt name names n l
-found_at name [] n l e = cc
+found_at name [] n l e = none_some l e
 found_at name (k ∷ ks) n l e = elim (cases_Bool (bytes_eq k.name name)) [
   | inl same ↦
       let f : Some k.link ≡ Some l = sym (ap (λ (b : Bool). if b then Some k.link else board.link_named name ks) same) ∙ e in
@@ -216,4 +216,4 @@ board_row P s t v a id m (PlainWhat.User code channel body links) is there at h 
     let k : service.switchboard_took s id (board.takes_request s.switchboard body links) ≡ t = cc in
     subst (λ (u : OneKernel). AtHome P u (given a (board_gets s v a id (PlainWhat.User code channel body links)))) k
     (board_request P s v a id code channel body links (λ n w f. (h.messages id m there).enclosed n w (ap (λ (x : PlainWhat). slice_get (links_in x) n) is ∙ f)) at h)
-board_row P s t v a id m _ is there at h e = cc
+board_row P s t v a id m _ is there at h e = none_some t e

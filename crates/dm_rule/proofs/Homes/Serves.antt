@@ -3,7 +3,7 @@ use Rattle.dm_rule.proofs.Names.{◌≡◌, ℕ, zero, suc, ◌+◌, ◌==◌, �
 use Rattle.dm_rule.proofs.Names.{pid_eq, PlainLink, link_at, MsgId, id_eq, Label, Why, PlainMessage, PlainWhat, Reply, bind, PlainProcess, PlainStatus, Moving, Alive, OneKernel, with_process, with_sent, without_message, pid_eq-same}
 use Rattle.dm_rule.proofs.Names.{id_eq-same, bind-is, when-is, View, Addresses, Gets, gets, given, gives, Slot, Owner, Receiver, Sender, Enclosed, unmoved, acting_place, replicate, ◌-◌, take, drop, Direction, BootImage, first_number}
 use Rattle.dm_rule.proofs.Names.{answer_id, answer_to, begun, pid_of, answer_gets, serving_gets, landing_gets, child_links, links_in, at_hand-is, AskedBy, MoveNote, Outcome, with_note, without_note, ends_move-is, option_map_or, cond_some}
-use Rattle.dm_rule.proofs.Names.{Ended}
+use Rattle.dm_rule.proofs.Names.{Ended, none_some}
 use Rattle.dm_rule.proofs.Homes.{place_as, pid_as, acts_at, HomeProcess, AtHome}
 use Rattle.dm_rule.proofs.Homes.Rows.{SameProcess, SameMessage, SameServers, sent_home, at_home_process, at_home_out, home_goes, alive_on, message_same, process_same}
 use Rattle.dm_rule.proofs.Homes.Steps.{OnlySlots, only_none, at_home_ended}
@@ -112,12 +112,12 @@ goes_on_home P a p x dir owner base own left piece h at =
 
 some_landed : (P : Pid → Place → Type 0) (a : Addresses) (p : Pid) (b : Bool) (c d : pieces.Landed) → LandedHome P a p c → (if b then Some c else None) ≡ Some d → LandedHome P a p d
 some_landed P a p true c d h e = let f : c ≡ d = cc in subst (LandedHome P a p) f h
-some_landed P a p false c d h e = cc
+some_landed P a p false c d h e = none_some d e
 
 if_lands_home : (P : Pid → Place → Type 0) (a : Addresses) (p : Pid) (x : PlainProcess) (b : Bool) (dir : Direction) (owner : Pid) (base own left : ℕ) (w : PlainWhat) (d : pieces.Landed) → HomeProcess P a p x → P owner (a (Owner p))
     → (if b then pieces.lands_what p x dir owner base own left w else None) ≡ Some d → LandedHome P a p d
 if_lands_home P a p x true dir owner base own left w d h at e = search (arith, some_landed, goes_on_home, done_home)
-if_lands_home P a p x false dir owner base own left w d h at e = cc
+if_lands_home P a p x false dir owner base own left w d h at e = none_some d e
 
 lands_home : (P : Pid → Place → Type 0) (a : Addresses) (p : Pid) (x : PlainProcess) (m : PlainMessage) (st : PlainStatus) (d : pieces.Landed) → x.status ≡ st → HomeProcess P a p x → pieces.lands p x m st ≡ Some d → LandedHome P a p d
 lands_home P a p x m st d h1 h2 h3 = search (arith, if_lands_home)
@@ -146,11 +146,11 @@ gone_what p x Direction.IntoArea owner base own left d e = let f : pieces.done R
 
 gone_if : (p : Pid) (x : PlainProcess) (b : Bool) (dir : Direction) (owner : Pid) (base own left : ℕ) (w : PlainWhat) (d : pieces.Landed) → w ≡ PlainWhat.Gone → (if b then pieces.lands_what p x dir owner base own left w else None) ≡ Some d → NothingNext d
 gone_if p x true dir owner base own left w d is e = gone_what p x dir owner base own left d (ap (pieces.lands_what p x dir owner base own left) (sym is) ∙ e)
-gone_if p x false dir owner base own left w d is e = cc
+gone_if p x false dir owner base own left w d is e = none_some d e
 
 pub gone_lands : (p : Pid) (x : PlainProcess) (m : PlainMessage) (st : PlainStatus) (d : pieces.Landed) → m.what ≡ PlainWhat.Gone → pieces.lands p x m st ≡ Some d → NothingNext d
 gone_lands p x m (Moving dir owner base own left pending) d is e = gone_if p x (m.id.n == pending) dir owner base own left m.what d is e
-gone_lands p x m _ d is e = cc
+gone_lands p x m _ d is e = none_some d e
 
 pub nothing_lands : (v : View) (a : Addresses) (p : Pid) (c : pieces.Landed) → NothingNext c → landing_gets v a p (Some c) ≡ []
 nothing_lands v a p (pieces.Done reply y) h = refl
@@ -203,14 +203,14 @@ served_home P s t v a id is named at h =
 
 -- created
 begun_link : (links : List PlainLink) (n k : ℕ) (l : PlainLink) → link_at (map Some links ++ replicate n None) k ≡ Some l → slice_get links k ≡ Some l
-begun_link [] zero k l e = cc
-begun_link [] (suc n) zero l e = cc
+begun_link [] zero k l e = none_some l e
+begun_link [] (suc n) zero l e = none_some l e
 begun_link [] (suc n) (suc k) l e = begun_link [] n k l e
 begun_link (x ∷ xs) n zero l e = e
 begun_link (x ∷ xs) n (suc k) l e = begun_link xs n k l e
 
 pub child_at : (a : Addresses) (child : Pid) (id : MsgId) (ls : List PlainLink) (n k j : ℕ) (w : PlainLink) → slice_get ls k ≡ Some w → j ≡ n + k → given a (child_links a child id n ls) (Slot child j) ≡ a (Enclosed id j)
-child_at a child id [] n k j w e f = cc
+child_at a child id [] n k j w e f = none_some w e
 child_at a child id (l ∷ ls) n zero j w e f =
     let same : (pid_eq child child && (n == j)) ≡ true = let g = pid_eq-same child in grind (arith, nat_tests) in
     ap (λ (c : Bool). if c then a (Enclosed id n) else given a (child_links a child id (n + 1) ls) (Slot child j)) same ∙ ap (λ (i : ℕ). a (Enclosed id i)) (let nj : n ≡ j = omega (arith, f) in nj)

@@ -1,13 +1,13 @@
 -- Lists of slots and links, and the registers of a call.
 use Rattle.dm_rule.proofs.Names.{◌≡◌, ℕ, zero, suc, ◌+◌, ◌%◌, ◌==◌, Bool, true, false, List, [], ◌∷◌, length, refl, ◌⊎◌, inl, inr, arith, nat_le, if◌then◌else◌, slice_set, slice_index, Option, None, Some, nat_tests, PlainLink, link_at}
-use Rattle.dm_rule.proofs.Names.{Regs, Opcode, Fault, opcode_of, Row, instruction, past}
+use Rattle.dm_rule.proofs.Names.{Regs, Opcode, Fault, opcode_of, Row, instruction, past, none_some}
 use Rattle.dm_processor.specs.Instructions as row
 use Rattle.dm_onekernel.specs.Calls as calls
 
 -- a slot that was set holds what it was set to, and the others what they held
 pub set_link : {L : Type 0} (slots : List (Option L)) (k j : ℕ) (y : Option L) (l : L) → link_at (slice_set slots k y) j ≡ Some l
     → (((k == j) ≡ true) × (y ≡ Some l)) ⊎ (((k == j) ≡ false) × (link_at slots j ≡ Some l))
-set_link [] k j y l e = cc
+set_link [] k j y l e = none_some l e
 set_link (x ∷ xs) zero zero y l e = inl (refl, e)
 set_link (x ∷ xs) zero (suc j) y l e = inr (let f : (0 == suc j) ≡ false = grind (arith, nat_tests) in f, e)
 set_link (x ∷ xs) (suc k) zero y l e = inr (let f : (suc k == 0) ≡ false = grind (arith, nat_tests) in f, e)

@@ -1,7 +1,7 @@
 -- Where a run begins, each address names the home of its process.
 use Rattle.dm_rule.proofs.Names.{◌≡◌, ℕ, zero, suc, ◌==◌, ◌&&◌, ◌||◌, Bool, true, false, List, [], ◌∷◌, ◌++◌, length, refl, ap, ◌∙◌, sym, arith, nat_le, inl, inr, if◌then◌else◌, map, option_map, slice_get, replicate, Option, None, Some}
 use Rattle.dm_rule.proofs.Names.{cases_Bool, nat_tests, Pid, Link, place_of, pid_eq, PlainLink, plain_link, link_at, BootProcess, BootImage, Boot, IsValid, switchboard, manager, processes_are_valid, starting_at, slots_of, PlainProcess}
-use Rattle.dm_rule.proofs.Names.{start, life_at, first_life, begun, Alive, pid_eq-is, ring_at, first_point, unmoved, links_at, first_addresses, Homes, are_home, left_true, right_true, option_map_or}
+use Rattle.dm_rule.proofs.Names.{start, life_at, first_life, begun, Alive, pid_eq-is, ring_at, first_point, unmoved, links_at, first_addresses, Homes, are_home, left_true, right_true, option_map_or, none_some}
 use Rattle.dm_rule.proofs.Homes.{IsHome, HomeProcess, AtHome, homes_are}
 use Rattle.dm_onekernel.specs.Boot as boot
 use Rattle.dm_onekernel.specs.Manager as manage
@@ -9,7 +9,7 @@ use Rattle.dm_onekernel.specs.Step as kernel
 
 -- a link of the boot file leads to a home
 named_is : (q : Pid) (ps : List BootProcess) (p : BootProcess) → boot.process_named q ps ≡ Some p → p.pid ≡ q
-named_is q [] p e = cc
+named_is q [] p e = none_some p e
 named_is q (r ∷ ps) p e = elim (cases_Bool (pid_eq r.pid q)) [
   | inl same ↦ let f : Some r ≡ Some p = sym (ap (λ (c : Bool). if c then Some r else boot.process_named q ps) same) ∙ e in let g : r ≡ p = cc in ap (λ (v : BootProcess). v.pid) (sym g) ∙ pid_eq-is r.pid q same
   | inr apart ↦ named_is q ps p (sym (ap (λ (c : Bool). if c then Some r else boot.process_named q ps) apart) ∙ e)
@@ -35,8 +35,8 @@ link_home b l e =
 
 -- the links of a process as it begins
 empty_slot : (n k : ℕ) (l : PlainLink) → link_at (replicate n None) k ≡ Some l → ⊥
-empty_slot zero k l e = cc
-empty_slot (suc n) zero l e = cc
+empty_slot zero k l e = none_some l e
+empty_slot (suc n) zero l e = none_some l e
 empty_slot (suc n) (suc k) l e = empty_slot n k l e
 
 first_link : (b : Boot) (ls : List Link) (n k : ℕ) (l : PlainLink) → boot.links_are_valid b ls ≡ true → link_at (map Some (map plain_link ls) ++ replicate n None) k ≡ Some l → option_map_or (λ w. place_of w.addr) (slice_get ls k) (unmoved 0) ≡ unmoved l.to.home
@@ -47,7 +47,7 @@ first_link b (x ∷ xs) n (suc k) l valid e = first_link b xs n k l (right_true 
 
 begun_home : (b : Boot) (earlier ps : List BootProcess) (q : Pid) (x : PlainProcess) → processes_are_valid b earlier ps ≡ true → links_at b.processes q ≡ links_at ps q
     → kernel.alive (life_at b ps q) ≡ Some x → HomeProcess IsHome (first_addresses b) q x
-begun_home b earlier [] q x valid at e = cc
+begun_home b earlier [] q x valid at e = none_some x e
 begun_home b earlier (p ∷ ps) q x valid at e =
     let links_valid : (b : Boot) (n : ℕ) (p : BootProcess) → boot.process_is_valid b n p ≡ true → boot.links_are_valid b p.links ≡ true = λ b n p e.
     let last = boot.links_are_valid b p.links in
@@ -66,12 +66,12 @@ begun_home b earlier (p ∷ ps) q x valid at e =
     ]
 
 child_home_of : (ps : List BootProcess) (n : ℕ) (q : Pid) → slice_get (map (λ (p : BootProcess). p.pid) ps) n ≡ Some q → unmoved (option_map_or (λ (p : BootProcess). p.pid.home) (slice_get ps n) 0) ≡ unmoved q.home
-child_home_of [] n q e = cc
+child_home_of [] n q e = none_some q e
 child_home_of (p ∷ ps) zero q e = let f : p.pid ≡ q = cc in ap (λ (v : Pid). unmoved v.home) f
 child_home_of (p ∷ ps) (suc n) q e = child_home_of ps n q e
 
 child_home : (ps : List BootProcess) (n : ℕ) (q : Pid) → manage.child_numbered (map (λ (p : BootProcess). p.pid) ps) n ≡ Some q → unmoved (option_map_or (λ (p : BootProcess). p.pid.home) (manage.child_numbered ps n) 0) ≡ unmoved q.home
-child_home ps zero q e = cc
+child_home ps zero q e = none_some q e
 child_home ps (suc n) q e = child_home_of ps n q e
 
 pub start_at_home : (b : Boot) → IsValid b → AtHome IsHome (start b) (first_addresses b)

@@ -1,7 +1,7 @@
 -- Each label of a process keeps addresses where they may be.
 use Rattle.dm_rule.proofs.Names.{◌≡◌, ℕ, ◌==◌, ◌&&◌, Bool, true, false, List, [], refl, ap, ◌∙◌, sym, subst, arith, if◌then◌else◌, Option, None, Some, nat_tests, Pid, Place, pid_eq, MsgId, id_eq, Label, Reply, Why, reply_eq, reply_code}
 use Rattle.dm_rule.proofs.Names.{why_eq, bind, PlainProcess, Alive, OneKernel, with_process, with_sent, Replies, Sends, Ends, id_eq-is, bind-is, when-is, View, Addresses, Gets, given, gives, Slot, acting_place, fills, fills_by, call_gets}
-use Rattle.dm_rule.proofs.Names.{sending_gets, Ended}
+use Rattle.dm_rule.proofs.Names.{sending_gets, Ended, none_some}
 use Rattle.dm_rule.proofs.Homes.{AtHome, place_as}
 use Rattle.dm_rule.proofs.Homes.Rows.{SameProcess, SameMessage, SameServers, running_home, at_home_process, home_goes, at_home_goes, alive_on, set_home, sent_home}
 use Rattle.dm_rule.proofs.Homes.Calls.{Nexts, next_home, gives_by}
@@ -65,7 +65,7 @@ reply_row P s t v a p n c (kernel.Calls number (calls.Replies d y)) w is h =
     subst (λ (u : OneKernel). AtHome P u (given a (call_gets v a p n c (kernel.running s p)))) k.1
     (subst (λ (g : List Gets). AtHome P (kernel.goes_on s p y) (given a g)) gs_is
     (at_home_process P s a (given a gs) p (Alive y) h o.others (alive_on P (given a gs) p y w.home) o.messages o.servers))
-reply_row P s t v a p n c _ w is h = cc
+reply_row P s t v a p n c _ w is h = none_some t is
 
 pub call_home : (P : Pid → Place → Type 0) (s t : OneKernel) (v : View) (a : Addresses) (p : Pid) (n : ℕ) (c : Reply) → kernel.step s (Label.Call p n c) ≡ Some t → P p (acting_place v p) → AtHome P s a → AtHome P t (given a (gives s v a (Label.Call p n c)))
 call_home P s t v a p n c is at h =
@@ -95,7 +95,7 @@ send_row P s t v a p id (kernel.Calls number (calls.Sends m y)) nx w is h =
       rooted = h.rooted;
       pending = h.pending;
     }))
-send_row P s t v a p id _ nx w is h = cc
+send_row P s t v a p id _ nx w is h = none_some t is
 
 pub send_home : (P : Pid → Place → Type 0) (s t : OneKernel) (v : View) (a : Addresses) (p : Pid) (id : MsgId) → kernel.step s (Label.Send p id) ≡ Some t → P p (acting_place v p) → AtHome P s a → AtHome P t (given a (gives s v a (Label.Send p id)))
 send_home P s t v a p id is at h =
@@ -127,4 +127,4 @@ end_row P s t a p y (kernel.Calls number (calls.Ends because)) is h =
     subst (λ (u : OneKernel). AtHome P u a) (when-is (why_eq y because) (with_process s p (Ended y)) t is).1 (at_home_ended P s a p y h)
 end_row P s t a p y (kernel.Faults fault) is h =
     subst (λ (u : OneKernel). AtHome P u a) (when-is (why_eq y (Why.Fault fault)) (with_process s p (Ended y)) t is).1 (at_home_ended P s a p y h)
-end_row P s t a p y _ is h = cc
+end_row P s t a p y _ is h = none_some t is

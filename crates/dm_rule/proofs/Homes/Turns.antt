@@ -1,7 +1,7 @@
 -- A turn keeps all of it.
 use Rattle.dm_rule.proofs.Names.{◌≡◌, ℕ, ◌+◌, ◌==◌, Bool, true, false, List, [], ◌∷◌, refl, ap, ◌∙◌, sym, subst, inl, inr, arith, nat_le, ⊤, if◌then◌else◌, Option, None, Some, nat_tests, Pid, MsgId, PlainMessage, Boot, Label, Says}
 use Rattle.dm_rule.proofs.Names.{OneKernel, after_step, Point, first_point, Part, Routes, Spelled, Homes, is_for_home, are_home, IsStill, LeadHomeAlways, ◌≤◌, false≢true, is_kernels, Step, actor, group_of, pid_of, first_number, Known, Line}
-use Rattle.dm_rule.proofs.Names.{◌++◌, MessageKind, ends_with, filter, map, preds_of, to_kernel, Frozen, Incoming, Forward, AskNone, LeadsStill, and_parts, calls_off, range_with_len}
+use Rattle.dm_rule.proofs.Names.{◌++◌, MessageKind, ends_with, filter, map, preds_of, to_kernel, Frozen, Incoming, Forward, AskNone, LeadsStill, and_parts, calls_off, range_with_len, none_some}
 use Rattle.dm_onekernel.specs.Step as kernel
 use Rattle.dm_rule.proofs.Homes.Labels.{SaidAt}
 use Rattle.dm_rule.proofs.Homes.Lists.{stands, all_stand}
@@ -42,7 +42,7 @@ ends_good o m p h =
     subst (λ (ns : List ℕ). PartsAnywhere m (rule.drop_parts (o.view.queue m p) ++ map (to_kernel MessageKind.Bury) ns)) none (drops_good m (o.view.queue m p))
 
 pub runnable_home : (s : OneKernel) (queue : Pid → List MsgId) (m : ℕ) (ps : List Pid) (q : Pid) → are_home m ps ≡ true → rule.first_runnable s queue ps ≡ Some q → q.home ≡ m
-runnable_home s queue m [] q h is = cc
+runnable_home s queue m [] q h is = none_some q is
 runnable_home s queue m (p ∷ ps) q h is =
     -- the first process of a ring that can be served
     let runnable_if : (m : ℕ) (b : Bool) (p : Pid) (o : Option Pid) (q : Pid) → p.home ≡ m → (o ≡ Some q → q.home ≡ m) → (if b then Some p else o) ≡ Some q → q.home ≡ m =
@@ -98,7 +98,7 @@ handles_good b e pt m id (Some k) h there f =
     }))
 
 pub for_home : (m : ℕ) (o : Option PlainMessage) (x : PlainMessage) → is_for_home m o ≡ true → o ≡ Some x → x.to.home ≡ m
-for_home m None x h is = cc
+for_home m None x h is = none_some x is
 for_home m (Some y) x h is = let f : y ≡ x = cc in let g : y.to.home ≡ m = grind (arith, nat_tests) in ap (λ (v : PlainMessage). v.to.home) (sym f) ∙ g
 
 pub turns_good : (b : Boot) (r e : MsgId → ℕ) (pt : Point) (m : ℕ) (is : List MsgId) → ((i : MsgId) (js : List MsgId) → is ≡ i ∷ js → nat_le 1 (e i) ≡ true → pt.kernel.bag i ≡ None → ⊥) → all_stand pt.kernel e m is ≡ true → Home r e pt → GoodOf pt.kernel e m (rule.turns b pt m is)

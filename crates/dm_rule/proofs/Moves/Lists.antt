@@ -1,7 +1,7 @@
 -- Messages that are held, come back from a held list, or leave a queue and a held list together.
 use Rattle.dm_rule.proofs.Names.{◌≡◌, ◌≢◌, ℕ, ◌+◌, ◌≤◌, ◌==◌, ◌&&◌, Bool, true, false, List, [], ◌∷◌, ◌++◌, refl, ap, ◌∙◌, sym, subst, arith, inl, inr, if◌then◌else◌, Option, None, Some, cases_Bool, false≢true, Pid, pid_eq, MsgId, id_eq}
 use Rattle.dm_rule.proofs.Names.{at_machine, at_record, View, handled, handled_first, receiver_of, held_for, released, Spot, Queue, Held, Inbox, times, ids_at, standing, StandsOnce, StandsNowhere, StandsAsBag, pid_eq-is, id_eq-is}
-use Rattle.dm_rule.proofs.Names.{id_eq-same, drop, and_parts, eqb-true, false_from_ne_true}
+use Rattle.dm_rule.proofs.Names.{id_eq-same, drop, and_parts, eqb-true, false_from_ne_true, none_some}
 use Rattle.dm_rule.proofs.Standing.{times-append, spot_cases, StandsAsBag-same, StandsAsBag-one, StandsAsBag-elsewhere}
 use Rattle.dm_rule.proofs.Once.{Kept, one_of, once_moves, one_of-off}
 use Rattle.dm_rule.proofs.Lines.{Bag, Stands, Stands-stays, at_machine_at, at_machine_off, at_record_off, at_record_at, inbox_apart, front_goes, handled_off, handled_at, one_more, queue_apart}
@@ -20,7 +20,7 @@ held_apart m n p q apart = false_from_ne_true ((m == n) && pid_eq p q) (λ e. le
 
 -- a message goes from the front of the inbox to the back of its receiver's held list
 held_is : (v : View) (i : MsgId) (p : Pid) (o : Option Pid) → o ≡ Some p → held_for (handled v i) i o ≡ record (handled v i) { held = at_record v.held v.acting p (v.held v.acting p ++ i ∷ []) }
-held_is v i p None e = cc
+held_is v i p None e = none_some p e
 held_is v i p (Some q) e = let f : q ≡ p = cc in ap (λ x. record (handled v i) { held = at_record v.held v.acting x (v.held v.acting x ++ i ∷ []) }) f
 
 pub Stands-held : (bag : Bag) (v w : View) (i : MsgId) (is : List MsgId) (x : Pid) → v.inbox v.acting ≡ i ∷ is → bag i ≡ Some x → w ≡ held_for (handled v i) i (receiver_of (v.told i)) → Stands bag v → Stands bag w

@@ -1,5 +1,5 @@
 -- The rows of migration keep that each message stands once.
-use Rattle.dm_rule.proofs.Names.{◌≡◌, ℕ, ◌==◌, Bool, true, false, List, [], ◌∷◌, ◌++◌, refl, ap, ◌∙◌, sym, subst, length, if◌then◌else◌, Option, None, Some, Pid, pid_of, MsgId, MessageKind, Stage, Boot, manager}
+use Rattle.dm_rule.proofs.Names.{◌≡◌, ℕ, ◌==◌, Bool, true, false, List, [], ◌∷◌, ◌++◌, refl, ap, ◌∙◌, sym, subst, length, if◌then◌else◌, Option, None, Some, Pid, pid_of, MsgId, MessageKind, Stage, Boot, manager, none_some}
 use Rattle.dm_rule.proofs.Names.{Size, size_of, is_server, Line, View, Told, About, NothingElse, Known, Unknown, Here, Frozen, Forward, view_after, handled, handled_first, receiver_of, is_kernels, target_of, with_ring, knowing, released, after_proto}
 use Rattle.dm_rule.proofs.Names.{asks_on, held_for, Addresses, Sender, is_told_back, Point, moved, Part, Says, Again, Owns, Spelled, spelled, to_kernel, forwards_on, accepts, takes_chunk, takes_block, gives_piece, sends_on, leaves}
 use Rattle.dm_rule.proofs.Names.{told_step, chunks_of, pieces_of, told_here, told_ended, process_told, kernel_hears, hears, Spot, Queue, Inbox, ids_at, bind-is, label_of, Label, MoveNote, Outcome, Target, answer_id, map, buried}
@@ -208,7 +208,7 @@ leaves_row pt i is p ids (Frozen to) parts w h fit front mine same e n =
     line_owns pt l MessageKind.Restart (pid_of i.from.home 0) i.from.home w refl refl h.fits
     (by_line None pt l refl h.state (Stands-stays (letters h.state.own pt.kernel.bag) pt.view (view_after pt.view l) (λ z. left_off pt.view p z) (λ j. refl) h.state.stands) (λ j. refl)) e in
     State-at None k.rest.point w.point k.point (State-at None a.rest.point k.rest.point a.point (left_row a.next i p a.rest (steadied a.next a.stands) a.more))
-leaves_row pt i is p ids _ parts w h fit front mine same e n = cc
+leaves_row pt i is p ids _ parts w h fit front mine same e n = none_some parts e
 
 -- what a kernel is told
 pub given : (pt : Point) (qs ps : List Part) (w : Spelled) → Some qs ≡ Some ps → spelled pt ps ≡ Some w → spelled pt qs ≡ Some w
@@ -235,7 +235,7 @@ told_row o pt m i is p room x MessageKind.Restart parts w h fit front mine sees 
 told_row o pt m i is p room x MessageKind.CallOff parts w h fit front mine sees e n =
     let q = o.kernel.notes p in
     ends_row pt (Line.Stays p) q Outcome.Stayed w refl refl fit (comes_back pt (Line.Stays p) i is p refl h front mine (λ z. refl)) (given pt (Says (Line.Stays p) ∷ tells_asker q Outcome.Stayed) parts w e n)
-told_row o pt m i is p room x _ parts w h fit front mine sees e n = cc
+told_row o pt m i is p room x _ parts w h fit front mine sees e n = none_some parts e
 
 -- a piece that isn't awaited, or what a kernel is told
 due_row : (b : Boot) (o pt : Point) (m : ℕ) (i : MsgId) (is : List MsgId) (k : MessageKind) (p : Pid) (stale : Bool) (parts : List Part) (w : Spelled) → State None pt → PairsFit pt.view → pt.view.inbox pt.view.acting ≡ i ∷ is → is_kernels i ≡ true → SeesSame o pt m
@@ -268,7 +268,7 @@ over_row b o pt m i is k p false parts w h fit front mine sees e n = due_row b o
 kernel_row : (b : Boot) (o pt : Point) (m : ℕ) (i : MsgId) (is : List MsgId) (k : MessageKind) (a : About) (parts : List Part) (w : Spelled) → State None pt → PairsFit pt.view → pt.view.inbox pt.view.acting ≡ i ∷ is → is_kernels i ≡ true → SeesSame o pt m
     → kernel_hears b o m i k a ≡ Some parts → spelled pt parts ≡ Some w → State None w.point
 kernel_row b o pt m i is k (Of p) parts w h fit front mine sees e n = over_row b o pt m i is k p (tells_end (sort_of k)) parts w h fit front mine sees e n
-kernel_row b o pt m i is k _ parts w h fit front mine sees e n = cc
+kernel_row b o pt m i is k _ parts w h fit front mine sees e n = none_some parts e
 
 updated_row : (o pt : Point) (i : MsgId) (is : List MsgId) (n : ℕ) (parts : List Part) (w : Spelled) → State None pt → pt.view.inbox pt.view.acting ≡ i ∷ is → is_kernels i ≡ true → Some (Says (Line.Updated i n) ∷ []) ≡ Some parts → spelled pt parts ≡ Some w → State None w.point
 updated_row o pt i is n parts w h front mine e k = line_ends pt (Line.Updated i n) w refl (goes_front pt (Line.Updated i n) i is refl h front mine (λ z. refl)) (given pt (Says (Line.Updated i n) ∷ []) parts w e k)
@@ -278,12 +278,12 @@ here_row : (o pt : Point) (m : ℕ) (i : MsgId) (is : List MsgId) (t : Told) (k 
     → told_here o m i t (sort_of k) ≡ Some parts → spelled pt parts ≡ Some w → State None w.point
 here_row o pt m i is t MessageKind.Migrate parts w h fit topic front mine e n = moves_row pt i is t.receiver (target_of (Some t)) (m == target_of (Some t)) w h fit topic front mine (given pt (if m == (target_of (Some t)) then Says (Line.Here i) ∷ [] else leaves_for t.receiver (target_of (Some t))) parts w e n)
 here_row o pt m i is t MessageKind.Update parts w h fit topic front mine e n = updated_row o pt i is _ parts w h front mine e n
-here_row o pt m i is t _ parts w h fit topic front mine e n = cc
+here_row o pt m i is t _ parts w h fit topic front mine e n = none_some parts e
 
 ended_row : (pt : Point) (i : MsgId) (is : List MsgId) (k : MessageKind) (parts : List Part) (w : Spelled) → State None pt → pt.view.inbox pt.view.acting ≡ i ∷ is → is_kernels i ≡ true → told_ended i (sort_of k) ≡ Some parts → spelled pt parts ≡ Some w → State None w.point
 ended_row pt i is MessageKind.Migrate parts w h front mine e n = line_ends pt (Line.NoMove i) w refl (goes_front pt (Line.NoMove i) i is refl h front mine (λ z. refl)) (given pt (Says (Line.NoMove i) ∷ []) parts w e n)
 ended_row pt i is MessageKind.Update parts w h front mine e n = updated_row pt pt i is 0 parts w h front mine e n
-ended_row pt i is _ parts w h front mine e n = cc
+ended_row pt i is _ parts w h front mine e n = none_some parts e
 
 process_row : (o pt : Point) (m : ℕ) (i : MsgId) (is : List MsgId) (t : Told) (k : Known) (parts : List Part) (w : Spelled) → State None pt → PairsFit pt.view → pt.view.topic ≡ NothingElse → pt.view.inbox pt.view.acting ≡ i ∷ is → is_kernels i ≡ true
     → process_told o m i t k ≡ Some parts → spelled pt parts ≡ Some w → State None w.point
@@ -302,6 +302,6 @@ hears_by b o pt m i is t false parts w h fit topic front mine sees e n = process
 pub hears_row : (b : Boot) (o pt : Point) (m : ℕ) (i : MsgId) (is : List MsgId) (t : Option Told) (parts : List Part) (w : Spelled) → State None pt → PairsFit pt.view → pt.view.topic ≡ NothingElse → pt.view.inbox pt.view.acting ≡ i ∷ is
     → pt.kernel.bag i ≡ None → SeesSame o pt m
     → hears b o m i t ≡ Some parts → spelled pt parts ≡ Some w → State None w.point
-hears_row b o pt m i is None parts w h fit topic front none sees e n = cc
+hears_row b o pt m i is None parts w h fit topic front none sees e n = none_some parts e
 hears_row b o pt m i is (Some t) parts w h fit topic front none sees e n =
     hears_by b o pt m i is t (t.receiver.num == 0) parts w h fit topic front (front_kernels pt i is h front none) sees e n

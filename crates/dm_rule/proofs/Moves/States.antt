@@ -1,7 +1,7 @@
 -- What migration says keeps that each message stands once: the kernels' own messages come and go, and messages go on.
 use Rattle.dm_rule.proofs.Names.{◌≡◌, ℕ, suc, ◌+◌, ◌≤◌, ◌==◌, Bool, true, false, List, ◌∷◌, refl, ap, ◌∙◌, sym, subst, arith, inl, inr, if◌then◌else◌, Option, None, Some, cases_Bool, false≢true, nat_tests, Pid, pid_of, MsgId, MessageKind}
 use Rattle.dm_rule.proofs.Names.{id_eq, id_of, PlainMessage, Line, Load, at_machine, View, Told, view_after, handled_first, receiver_of, is_kernels, own_id, to_of, Point, moved, seen, Inbox, times, standing, id_eq-is, id_eq-same, Sound}
-use Rattle.dm_rule.proofs.Names.{false_from_ne_true}
+use Rattle.dm_rule.proofs.Names.{false_from_ne_true, none_some}
 use Rattle.dm_rule.specs.View as view
 use Rattle.dm_rule.proofs.Once.{one_of}
 use Rattle.dm_rule.proofs.Lines.{Bag, hidden, having, Stands, Stands-same, Stands-stays, Stands-handled, untold_tells, having_off}
@@ -86,11 +86,11 @@ between_packet gone q a b k l h = record {
 
 -- the first of them is put again
 told_same : (o : Option Told) (t u : Told) → o ≡ Some t → view.first_told o u ≡ t
-told_same None t u e = cc
+told_same None t u e = none_some t e
 told_same (Some s) t u e = let f : s ≡ t = cc in f
 
 pub not_first : (i : MsgId) (o : Option Told) (t : Told) → o ≡ Some t → view.is_own i o ≡ false
-not_first i None t e = cc
+not_first i None t e = none_some t e
 not_first i (Some s) t e = refl
 
 pub again_told : (v : View) (a b : ℕ) (i : MsgId) (t : Told) → v.told i ≡ Some t → (j : MsgId) → (view.after_put v a b i t.kind t.receiver).told j ≡ v.told j

@@ -1,6 +1,6 @@
 -- The pairs of machines stand, and what keeps them so.
 use Rattle.dm_rule.proofs.Names.{◌≡◌, ℕ, zero, suc, ◌+◌, ◌<◌, ◌≤◌, ◌==◌, ◌&&◌, Bool, true, false, List, [], ◌∷◌, ◌++◌, ap, ◌∙◌, sym, subst, inl, inr, arith, length, ⊤, if◌then◌else◌, slice_get, slice_set, Some, cases_Bool, nat_tests, Load}
-use Rattle.dm_rule.proofs.Names.{at_pair, Pair, SentLoad, has, HomeStands}
+use Rattle.dm_rule.proofs.Names.{at_pair, Pair, SentLoad, has, HomeStands, none_some}
 
 -- what a packet carries: data that has gone out, or a count of messages that were taken on the pair that leads back
 abbrev pub LoadStands : ℕ → ℕ → Load → Type 0
@@ -50,7 +50,7 @@ WireStands-put g b (t ∷ ss) s h k = (h.0, WireStands-put g b ss s h.1 k)
 
 -- a packet of the wire
 pub WireStands-at : (g b : ℕ) (ss : List SentLoad) (k : ℕ) (s : SentLoad) → slice_get ss k ≡ Some s → WireStands g b ss → LoadStands g b s.load
-WireStands-at g b [] k s e h = cc
+WireStands-at g b [] k s e h = none_some s e
 WireStands-at g b (t ∷ ss) zero s e h = let f : t ≡ s = cc in subst (λ (v : SentLoad). LoadStands g b v.load) f h.0
 WireStands-at g b (t ∷ ss) (suc k) s e h = WireStands-at g b ss k s e h.1
 

@@ -3,7 +3,7 @@ use Rattle.dm_rule.proofs.Names.{◌≡◌, ◌⊎◌, ℕ, ◌==◌, Bool, true
 use Rattle.dm_rule.proofs.Names.{MessageKind, id_eq, id_eq-is, Label, Load, Stage, Line, plain_kind, PlainWhat, OneKernel, View, Told, Of, Known, Unknown, Here, Receiver, at_record, after_step, view_after, after_label, after_put, handled}
 use Rattle.dm_rule.proofs.Names.{own_id, receiver_of, front_of, gone_to, goes_back, taken_id, dropped_for, served_told, ends_by, is_away, sort_of, tells_end, Point, label_of, kernel_after, moved, after_line, after, bind-is, Part, Says}
 use Rattle.dm_rule.proofs.Names.{Routes, Again, Owns, Transmits, Spelled, spelled, lines_of, puts, goes_out, packet_line, ended_stays_of}
-use Rattle.dm_rule.proofs.Names.{◌||◌, arith, nat_tests, nat_le, is_some, is_server, switchboard, manager, Life, Made}
+use Rattle.dm_rule.proofs.Names.{◌||◌, arith, nat_tests, nat_le, is_some, is_server, switchboard, manager, Life, Made, none_some}
 use Rattle.dm_rule.specs.View as view
 use Rattle.dm_rule.proofs.Hushed.{is_put, hushed}
 use Rattle.dm_rule.proofs.Homes.Lines.{acting_label}
@@ -105,7 +105,7 @@ placed_goes s t v w p k same known goes elsewhere serves h =
 
 -- what was made is no server
 made_life : (l : Option Life) (b : Bool) → life_of l ≡ Some b → is_some l ≡ true
-made_life None b e = cc
+made_life None b e = none_some b e
 made_life (Some l) b e = refl
 
 made_plain : (s : OneKernel) (p : Pid) (b : Bool) → Made s → lives s p ≡ Some b → is_server p ≡ false

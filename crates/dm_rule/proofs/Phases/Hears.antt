@@ -1,5 +1,5 @@
 -- A kernel's own message is handled: each process stays in a phase.
-use Rattle.dm_rule.proofs.Names.{◌≡◌, ℕ, ◌==◌, Bool, true, false, List, [], ◌∷◌, ◌++◌, refl, ap, ◌∙◌, sym, subst, length, if◌then◌else◌, Option, None, Some, false≢true, Pid, MsgId, MessageKind, Line, Stage, Boot}
+use Rattle.dm_rule.proofs.Names.{◌≡◌, ℕ, ◌==◌, Bool, true, false, List, [], ◌∷◌, ◌++◌, refl, ap, ◌∙◌, sym, subst, length, if◌then◌else◌, Option, None, Some, false≢true, Pid, MsgId, MessageKind, Line, Stage, Boot, none_some}
 use Rattle.dm_rule.proofs.Names.{manager, Size, size_of, View, Told, About, Of, Known, Unknown, Here, Forward, is_kernels, target_of, Addresses, Sender, is_told_back, Point, Part, Says, Owns, Spelled, spelled, forwards_on, accepts}
 use Rattle.dm_rule.proofs.Names.{takes_chunk, takes_block, gives_piece, told_step, chunks_of, pieces_of, updates, told_here, told_ended, process_told, fits, free_room, kernel_hears, hears, is_between, bind-is, Label, MoveNote}
 use Rattle.dm_rule.proofs.Names.{NothingElse, Outcome, bind, kernel_after, label_of, leaves_for, moved, tells_asker, sort_of, eq-eqb, is_stale, is_waited_from, pulls_piece, brings_piece, inl, inr, not, ◌&&◌, buried, buries, preds_of, tells_end}
@@ -116,7 +116,7 @@ told_row o pt m i is t p room x MessageKind.Restart parts w h sane state front t
     let q = o.kernel.notes u.p in
     let l = Line.Migration Stage.Restarted u.p in
     ends_row pt l q Outcome.Done w refl refl (restart_whole pt i is t h u (sym (ap (λ (y : Told). y.kind) u.told) ∙ e) front told mine) sane state (given pt (Says l ∷ tells_asker q Outcome.Done) parts w mine_ n)
-told_row o pt m i is t p room x _ parts w h sane state front told mine sees ranked fresh e about g n = cc
+told_row o pt m i is t p room x _ parts w h sane state front told mine sees ranked fresh e about g n = none_some parts g
 
 -- the others, at a process or a server
 pub tame_of : (v : View) (i : MsgId) (t : Told) → v.told i ≡ Some t → is_between t.kind ≡ false → Tame v i
@@ -136,12 +136,12 @@ here_row : (o pt : Point) (m : ℕ) (i : MsgId) (is : List MsgId) (t : Told) (k 
     → pt.view.known pt.view.acting t.receiver ≡ Here → told_here o m i t (sort_of k) ≡ Some parts → spelled pt parts ≡ Some w → Whole w.point
 here_row o pt m i is t MessageKind.Migrate parts w h sane state plain front told mine sees here g n = moves_row o pt m i is t (m == target_of (Some t)) w h sane state plain front told mine sees here refl (given pt (if m == (target_of (Some t)) then Says (Line.Here i) ∷ [] else leaves_for t.receiver (target_of (Some t))) parts w g n)
 here_row o pt m i is t MessageKind.Update parts w h sane state plain front told mine sees here g n = one_quiet pt (updates o i t) parts w h sane state (tame_of pt.view i t told plain, tt) g n
-here_row o pt m i is t _ parts w h sane state plain front told mine sees here g n = cc
+here_row o pt m i is t _ parts w h sane state plain front told mine sees here g n = none_some parts g
 
 ended_row : (pt : Point) (i : MsgId) (t : Told) (k : MessageKind) (parts : List Part) (w : Spelled) (h : Whole pt) → Sane pt → State None w.point → Tame pt.view i → told_ended i (sort_of k) ≡ Some parts → spelled pt parts ≡ Some w → Whole w.point
 ended_row pt i t MessageKind.Migrate parts w h sane state tame g n = one_quiet pt (Says (Line.NoMove i) ∷ []) parts w h sane state (tame, tt) g n
 ended_row pt i t MessageKind.Update parts w h sane state tame g n = one_quiet pt (Says (Line.Updated i 0) ∷ []) parts w h sane state (tame, tt) g n
-ended_row pt i t _ parts w h sane state tame g n = cc
+ended_row pt i t _ parts w h sane state tame g n = none_some parts g
 
 process_row : (o pt : Point) (m : ℕ) (i : MsgId) (is : List MsgId) (t : Told) (k : Known) (parts : List Part) (w : Spelled) (h : Whole pt) → Sane pt → State None w.point → is_between t.kind ≡ false → pt.view.inbox pt.view.acting ≡ i ∷ is → pt.view.told i ≡ Some t → is_kernels i ≡ true → SeesAll o pt m
     → pt.view.known pt.view.acting t.receiver ≡ k → process_told o m i t k ≡ Some parts → spelled pt parts ≡ Some w → Whole w.point
@@ -196,7 +196,7 @@ kernel_row : (b : Boot) (o pt : Point) (m : ℕ) (i : MsgId) (is : List MsgId) (
     → pt.view.told i ≡ Some t → is_kernels i ≡ true → SeesAll o pt m → Ranked pt.view → Ends pt
     → t.about ≡ a → kernel_hears b o m i t.kind a ≡ Some parts → spelled pt parts ≡ Some w → Whole w.point
 kernel_row b o pt m i is t (Of p) parts w h sane state front told mine sees ranked ends about g n = over_by b o pt m i is t p (tells_end (sort_of t.kind)) parts w h sane state front told mine sees ranked ends about refl g n
-kernel_row b o pt m i is t _ parts w h sane state front told mine sees ranked ends about g n = cc
+kernel_row b o pt m i is t _ parts w h sane state front told mine sees ranked ends about g n = none_some parts g
 
 -- what kernels tell each other of migrations is told to a kernel
 kernel_told : (pt : Point) (i : MsgId) (is : List MsgId) (t : Told) (h : InPhases pt.view) → is_between t.kind ≡ true → pt.view.inbox pt.view.acting ≡ i ∷ is → pt.view.told i ≡ Some t → t.receiver.num ≡ 0
@@ -218,7 +218,7 @@ hears_by b o pt m i is t false parts w h sane state c front told mine sees ranke
 -- a kernel's own message at the front of the inbox
 pub phases_hears : (b : Boot) (o pt : Point) (m : ℕ) (i : MsgId) (is : List MsgId) (t : Option Told) (parts : List Part) (w : Spelled) (h : Whole pt) → Sane pt → Ranked pt.view → Ends pt → pt.view.inbox pt.view.acting ≡ i ∷ is → pt.kernel.bag i ≡ None → pt.view.told i ≡ t → SeesAll o pt m
     → hears b o m i t ≡ Some parts → spelled pt parts ≡ Some w → Whole w.point
-phases_hears b o pt m i is None parts w h sane ranked ends front none told sees e n = cc
+phases_hears b o pt m i is None parts w h sane ranked ends front none told sees e n = none_some parts e
 phases_hears b o pt m i is (Some t) parts w h sane ranked ends front none told sees e n =
     hears_by b o pt m i is t (t.receiver.num == 0) parts w h sane
     (hears_row b o pt m i is (Some t) parts w h.state h.fits sees.topic front none sees.same e n) refl front told (front_kernels pt i is h.state front none) sees ranked ends e n

@@ -2,7 +2,7 @@
 use Rattle.dm_rule.proofs.Names.{◌≡◌, ℕ, ◌+◌, ◌≤◌, ◌==◌, ◌&&◌, Bool, true, false, not, List, [], ◌∷◌, ◌++◌, length, refl, ap, ◌∙◌, sym, subst, inl, inr, arith, if◌then◌else◌, Option, None, Some, cases_Bool, false≢true, Pid, pid_eq, MsgId}
 use Rattle.dm_rule.proofs.Names.{MessageKind, Line, Stage, id_eq, bind, Load, at_record, View, Told, Known, Frozen, view_after, handled_first, gone_to, receiver_of, is_kernels, Point, moved, after, Part, Says, Again, Spelled, lines_of}
 use Rattle.dm_rule.proofs.Names.{puts, behind, spelled, to_kernel, sends_on, leaves, Spot, times, standing, is_between, Phase, Moves, knows, token_in, sender_in, receiver_in, id_eq-is, id_eq-same, pid_eq-same, bind-is, nat_tests, eqb-true}
-use Rattle.dm_rule.proofs.Names.{Of, Incoming, sort_of, ComesIn}
+use Rattle.dm_rule.proofs.Names.{Of, Incoming, sort_of, ComesIn, none_some}
 use Rattle.dm_rule.specs.View as view
 use Rattle.dm_rule.specs.Phases as phase
 use Rattle.dm_rule.proofs.Once.{one_of}
@@ -118,7 +118,7 @@ sent_learns pt n i is t h u front told =
 
 -- the messages of the lists are none of the protocol
 pub told_some : (o : Option Told) (q : Pid) → receiver_of o ≡ Some q → (t : Told) × (o ≡ Some t)
-told_some None q e = cc
+told_some None q e = none_some q e
 told_some (Some t) q e = (t, refl)
 
 lists_tame : (v : View) (p : Pid) (j : MsgId) (q : Pid) → InPhases v → 1 ≤ times j (both_lists v p) → receiver_of (v.told j) ≡ Some q → Tame v j

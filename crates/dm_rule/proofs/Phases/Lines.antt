@@ -2,7 +2,7 @@
 use Rattle.dm_rule.proofs.Names.{◌≡◌, ℕ, zero, suc, ◌+◌, ◌==◌, ◌&&◌, Bool, true, false, List, [], ◌∷◌, ◌++◌, drop, length, refl, ap, ◌∙◌, sym, subst, inl, inr, arith, if◌then◌else◌, Option, None, Some, cases_Bool, length-append}
 use Rattle.dm_rule.proofs.Names.{drop-length, Pid, MsgId, MessageKind, id_eq, Load, Line, at_machine, at_pair, at_record, without_id, without_front, View, Pair, Told, handled, queued_for, held_for, dropped_for, forwarded_for, view_after}
 use Rattle.dm_rule.proofs.Names.{after_put, routed_on, Spot, Inbox, Untaken, times, untaken, standing, is_between, pid_eq-is, id_eq-is, id_eq-same, id_eq-swap, nat_tests, and_parts, eqb-true, Label, Stage, Step, About, Of, Target}
-use Rattle.dm_rule.proofs.Names.{after_head, served_told, ends_by, sort_of, false≢true}
+use Rattle.dm_rule.proofs.Names.{after_head, served_told, ends_by, sort_of, false≢true, none_some}
 use Rattle.dm_rule.specs.View as view
 use Rattle.dm_rule.proofs.Standing.{times-append}
 use Rattle.dm_rule.proofs.Once.{one_of}
@@ -172,7 +172,7 @@ pub put_at : (v : View) (a b : ℕ) (i : MsgId) (k : MessageKind) (q : Pid) → 
 put_at v a b i k q = ap (λ (c : Bool). if c then Some (view.first_told (v.told i) (record { kind = k; receiver = q; about = v.topic })) else v.told i) (id_eq-same i)
 
 pub first_kept : (o : Option Told) (u t : Told) → o ≡ Some t → Some (view.first_told o u) ≡ Some t
-first_kept None u t e = cc
+first_kept None u t e = none_some t e
 first_kept (Some s) u t e = e
 
 pub put_calm : (v : View) (a b : ℕ) (i : MsgId) (k : MessageKind) (q : Pid) → PairsFit v → is_between k ≡ false → Plain v i → Calm v (after_put v a b i k q)

@@ -1,6 +1,6 @@
 -- The rows of migration that answer with the next message: a request, the pieces, and that all is taken.
 use Rattle.dm_rule.proofs.Names.{◌≡◌, ℕ, ◌==◌, ◌&&◌, Bool, true, false, not, List, [], ◌∷◌, refl, ap, ◌∙◌, sym, subst, arith, if◌then◌else◌, Option, None, Some, Pid, pid_eq, MsgId, MessageKind, Line, Stage, at_record, View, Told, About}
-use Rattle.dm_rule.proofs.Names.{NothingElse, Known, Incoming, view_after, handled, front_of, after_proto, asks_on, is_kernels, Point, Says, Spelled, spelled, to_kernel, accepts, takes_chunk, takes_block, gives_piece, Spot, ids_at}
+use Rattle.dm_rule.proofs.Names.{NothingElse, Known, Incoming, view_after, handled, front_of, after_proto, asks_on, is_kernels, Point, Says, Spelled, spelled, to_kernel, accepts, takes_chunk, takes_block, gives_piece, Spot, ids_at, none_some}
 use Rattle.dm_rule.proofs.Names.{is_between, is_apart, is_restart, is_early, kind_comes, is_away, Phase, Moves, knows, sender_in, receiver_in, pid_eq-same, right_true, kind_leaves, and_right, not-true, ◌<◌, ◌||◌, inl, inr, cases_Bool}
 use Rattle.dm_rule.proofs.Names.{false≢true, pid_of, sort_of, standing, Inbox, Forward, Unknown, handled_first, moved, eqb-true, both_true, IsLeft, IsWay, Asks, Comes, ComesIn, HasCome, tells_come, is_calloff, pulls_piece, brings_piece, is_server}
 use Rattle.dm_rule.proofs.Moves.Lists.{first_off}
@@ -134,7 +134,7 @@ proto_acting v o = let asks_acting : (v : View) (a : About) → (asks_on v a).ac
 
 -- what it is about
 proto_topic : (v : View) (o : Option Told) (t : Told) → o ≡ Some t → (after_proto v o).topic ≡ t.about
-proto_topic v None t e = cc
+proto_topic v None t e = none_some t e
 proto_topic v (Some s) t e = let f : s ≡ t = cc in ap (λ (x : Told). x.about) f
 
 pub proto_row : (pt : Point) (i : MsgId) (is : List MsgId) (t : Told) (j : MessageKind) (w : Spelled) (h : Whole pt) (u : Due pt i t h.phases) → is_calloff u.k ≡ false → is_restart u.k ≡ is_restart j → is_early u.k ≡ is_early j → is_calloff u.k ≡ is_calloff j → tells_come (sort_of u.k) ≡ tells_come (sort_of j)

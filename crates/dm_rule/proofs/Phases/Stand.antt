@@ -2,7 +2,7 @@
 use Rattle.dm_rule.proofs.Names.{◌≡◌, ◌⊎◌, ℕ, ◌≤◌, Bool, true, false, refl, ap, ◌∙◌, sym, subst, inl, inr, arith, if◌then◌else◌, Option, None, Some, cases_Bool, false≢true, Pid, pid_eq, MsgId, MessageKind, at_pid, View, Told, Of, Known}
 use Rattle.dm_rule.proofs.Names.{Spot, Queue, id_eq, id_eq-is, false_from_ne_true, Held, Inbox, Untaken, standing, is_between, is_apart, Phase, Moves, knows, is_due, token_in, sender_in, receiver_in, told_between, IsToken, HasToken, Alone}
 use Rattle.dm_rule.proofs.Names.{IsIn, pid_eq-is, pid_eq-same, IsLeft, IsBefore, Asks, Comes, ComesIn, is_calloff, Incoming, ◌<◌, ◌==◌, not, not-true, right_true, eqb-true, is_away, kind_comes, kind_leaves, sort_of, pulls_piece}
-use Rattle.dm_rule.proofs.Names.{brings_piece}
+use Rattle.dm_rule.proofs.Names.{brings_piece, none_some}
 use Rattle.dm_rule.proofs.Lines.{eq_self}
 use Rattle.dm_message.specs.declared.kind.MessageKind.TheVariants as kind
 use Rattle.dm_rule.proofs.Phases.Calm.{Came, Calm, calm_in, between_of, stands_where, left_on, left_same}
@@ -47,7 +47,7 @@ pub data TokenOrLeft (v : View) (p : Pid) (phase : Phase) (i : MsgId) (t : Told)
 -- the phase whose token it is
 pub phase_of : (phase : Phase) (i : MsgId) → token_in phase ≡ Some i → (k : MessageKind) × (s : ℕ) × (d : ℕ) × (phase ≡ Moves k s d (Some i))
 phase_of (Moves k s d id) i e = (k, s, d, ap (λ (o : Option MsgId). Moves k s d o) e)
-phase_of _ i e = cc
+phase_of _ i e = none_some i e
 
 pub token_is : (v : View) (h : InPhases v) (i : MsgId) (t : Told) (z : Spot) → v.told i ≡ Some t → is_between t.kind ≡ true → 1 ≤ standing v i z → (p : Pid) × (t.about ≡ Of p) × TokenOrLeft v p (h.of p) i t
 token_is v h i t z told b st =

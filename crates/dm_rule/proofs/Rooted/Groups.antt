@@ -1,7 +1,7 @@
 -- Each group keeps that rings list what is here, and that nothing is known of what was never made.
 use Rattle.dm_rule.proofs.Names.{◌≡◌, ℕ, ◌+◌, ◌==◌, Bool, false, List, [], ◌∷◌, length, refl, ap, ◌∙◌, subst, arith, if◌then◌else◌, slice_get, Option, Some, nat_tests, Pid, pid_of, MsgId, MessageKind, plain_kind, Boot, first_number, bind}
 use Rattle.dm_rule.proofs.Names.{OneKernel, Step, Line, Load, Told, Known, Here, own_id, Receiver, Point, label_of, kernel_after, moved, after_line, after, Part, Says, Routes, Again, Owns, Transmits, Spelled, lines_of, puts, goes_out}
-use Rattle.dm_rule.proofs.Names.{packet_line, behind, spelled, migrates, is_between, Moves, knows, group_of, bind-is, next_is_new, calls_off, to_kernel, sort_of, pulls_piece}
+use Rattle.dm_rule.proofs.Names.{packet_line, behind, spelled, migrates, is_between, Moves, knows, group_of, bind-is, next_is_new, calls_off, to_kernel, sort_of, pulls_piece, none_some}
 use Rattle.dm_onekernel.specs.Step as kernel
 use Rattle.dm_rule.specs.Rule as rule
 use Rattle.dm_rule.proofs.Groups.{group_is, arrives_net, resends_net}
@@ -72,7 +72,7 @@ served_if : (s : OneKernel) (queue : Pid → List MsgId) (f : Pid → Known) (p 
 served_if s queue f p q ps c h1 h2 h3 = grind (arith, nat_tests)
 
 served_here : (s : OneKernel) (queue : Pid → List MsgId) (f : Pid → Known) (q : Pid) (ps : List Pid) → AllHere f ps → rule.first_runnable s queue ps ≡ Some q → f q ≡ Here
-served_here s queue f q [] h e = cc
+served_here s queue f q [] h e = none_some q e
 served_here s queue f q (p ∷ ps) h e = served_if s queue f p q ps (rule.can_go s (queue p) (kernel.alive (s.processes p))) e h.0 (λ k. served_here s queue f q ps h.1 k)
 
 pub rooted : (pt : Point) → Sane pt → Grounded pt → Rooted pt

@@ -1,6 +1,6 @@
 -- What lives behind a label has lived before it, but for a process that the label makes; and what a label ends doesn't live on.
 use Rattle.dm_rule.proofs.Names.{◌≡◌, Bool, true, false, refl, ap, ◌∙◌, sym, subst, inl, inr, if◌then◌else◌, Option, None, Some, cases_Bool, false≢true, or_left, or_right, bind, bind-is, when-is, Pid, pid_eq, pid_eq-is, pid_eq-same, MsgId}
-use Rattle.dm_rule.proofs.Names.{Label, PlainMessage, PlainWhat, PlainProcess, Alive, Life, OneKernel, with_process, with_sent, without_message, is_some, begun, ◌||◌, Why, is_server, is_alive, Ended}
+use Rattle.dm_rule.proofs.Names.{Label, PlainMessage, PlainWhat, PlainProcess, Alive, Life, OneKernel, with_process, with_sent, without_message, is_some, begun, ◌||◌, Why, is_server, is_alive, Ended, none_some}
 use Rattle.dm_onekernel.specs.Calls as calls
 use Rattle.dm_onekernel.specs.Pieces as pieces
 use Rattle.dm_onekernel.specs.Service as service
@@ -81,7 +81,7 @@ over s p y off = ap (λ (c : Bool). is_server p || lives (if c then Some (Ended 
 ends_over : (s t : OneKernel) (p : Pid) (y : Why) (next : kernel.Trap) → is_server p ≡ false → kernel.ends s p y next ≡ Some t → is_alive t p ≡ false
 ends_over s t p y (kernel.Calls k (calls.Ends because)) off e = subst (λ (u : OneKernel). is_alive u p ≡ false) (when-is _ (with_process s p (Ended y)) t e).1 (over s p y off)
 ends_over s t p y (kernel.Faults fault) off e = subst (λ (u : OneKernel). is_alive u p ≡ false) (when-is _ (with_process s p (Ended y)) t e).1 (over s p y off)
-ends_over s t p y _ off e = cc
+ends_over s t p y _ off e = none_some t e
 
 pub end_over : (s t : OneKernel) (p : Pid) (y : Why) → kernel.step s (Label.End p y) ≡ Some t → is_server p ≡ false → is_alive t p ≡ false
 end_over s t p y is off = let (next, trap, rest) = bind-is (kernel.next_trap s p) (kernel.ends s p y) t is in ends_over s t p y next off rest

@@ -1,11 +1,11 @@
 -- What machines learn of a process agrees with its trail.
 use Rattle.dm_rule.proofs.Names.{◌≡◌, ◌≢◌, ◌⊎◌, ℕ, zero, suc, ◌+◌, ◌<◌, ◌==◌, Bool, true, false, List, [], ◌∷◌, ◌++◌, length, refl, ap, ◌∙◌, sym, inl, inr, arith, nat_tests, if◌then◌else◌, slice_get, Some, slice_get_within, false≢true, Pid}
-use Rattle.dm_rule.proofs.Names.{View, Known, Unknown, Here, Incoming, Forward, Trails, Trail, eqb-true}
+use Rattle.dm_rule.proofs.Names.{View, Known, Unknown, Here, Incoming, Forward, Trails, Trail, eqb-true, none_some}
 use Rattle.dm_rule.proofs.Lines.{eq_self}
 
 -- lists that grow at the end
 pub get_more : {X : Type 0} (xs ys : List X) (c : ℕ) (m : X) → slice_get xs c ≡ Some m → slice_get (xs ++ ys) c ≡ Some m
-get_more [] ys c m e = cc
+get_more [] ys c m e = none_some m e
 get_more (x ∷ xs) ys zero m e = e
 get_more (x ∷ xs) ys (suc c) m e = get_more xs ys c m e
 

@@ -1,6 +1,6 @@
 -- From each place of a trail the forwards lead to the process, in fewer steps than there are machines.
 use Rattle.dm_rule.proofs.Names.{◌≡◌, ◌≢◌, ℕ, zero, suc, ◌+◌, ◌≤◌, ◌<◌, ◌==◌, ◌||◌, Bool, true, false, List, [], ◌∷◌, refl, ap, ◌∙◌, sym, inl, inr, arith, slice_get, Some, cases_eq, or_cases, or_left, or_right, false≢true, Pid, Place, View}
-use Rattle.dm_rule.proofs.Names.{not, nat_lt, Known, Unknown, Here, Frozen, Incoming, Forward, Trails, Trail, IsOn, leads_on, leads, both_true, false_from_ne_true, lt-ltb}
+use Rattle.dm_rule.proofs.Names.{not, nat_lt, Known, Unknown, Here, Frozen, Incoming, Forward, Trails, Trail, IsOn, leads_on, leads, both_true, false_from_ne_true, lt-ltb, none_some}
 use Rattle.std.proofs.Common.{eqb-true, eq-eqb}
 pub use Rattle.std.proofs.lemmas.Bool.{lt-ltb as less_test}
 
@@ -55,7 +55,7 @@ ahead (x ∷ xs) (suc c) m = ahead xs c m
 
 is_ahead : (xs : List ℕ) (c j m : ℕ) → c ≤ j → slice_get xs j ≡ Some m → ahead xs c m ≡ true
 unfolding ahead
-is_ahead [] c j m le e = cc
+is_ahead [] c j m le e = none_some m e
 is_ahead (x ∷ xs) zero zero m le e = let is : x ≡ m = cc in or_left (x == m) (ahead xs zero m) (eq-eqb x m is)
 is_ahead (x ∷ xs) zero (suc j) m le e = or_right (x == m) (ahead xs zero m) (is_ahead xs zero j m (omega arith) e)
 is_ahead (x ∷ xs) (suc c) zero m le e = absurd (omega (arith, le))

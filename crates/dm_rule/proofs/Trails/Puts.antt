@@ -1,7 +1,7 @@
 -- Puts keep each address on its trail.
 use Rattle.dm_rule.proofs.Names.{◌≡◌, ◌⊎◌, ℕ, suc, ◌+◌, Bool, true, false, List, [], ◌∷◌, refl, ap, ◌∙◌, sym, subst, inl, inr, arith, if◌then◌else◌, slice_get, Option, None, Some, cases_Bool, false≢true, Pid, pid_eq, MsgId, id_eq}
 use Rattle.dm_rule.proofs.Names.{MessageKind, manager, OneKernel, pid_eq-is, id_eq-is, id_eq-same, View, Told, is_kernels, after_put, Addresses, Holder, Receiver, Sender, Child, Gets, given, acting_place, unmoved, child_number, own_given, position_from}
-use Rattle.dm_rule.proofs.Names.{first_gives, names, Trails, IsOn, Sort, sort_of, Place, known_place}
+use Rattle.dm_rule.proofs.Names.{first_gives, names, Trails, IsOn, Sort, sort_of, Place, known_place, none_some}
 use Rattle.std.specs.Option.{unwrap_or}
 use Rattle.dm_rule.proofs.States.{put_told_off}
 use Rattle.dm_rule.proofs.Phases.Lines.{put_at}
@@ -44,7 +44,7 @@ put_all s v a t x y id k q bag none to from h g r e =
 
 -- a request to move a child, along the manager's link to it
 child_there : (k : ℕ) (p : Pid) (ps : List Pid) (n : ℕ) → (position_from (pid_eq p) k ps) ≡ Some n → (j : ℕ) × (n ≡ k + j) × (slice_get ps j ≡ Some p)
-child_there k p [] n e = cc
+child_there k p [] n e = none_some n e
 child_there k p (q ∷ ps) n e = elim (cases_Bool (pid_eq p q)) [
   | inl same ↦
       let f : Some k ≡ Some n = sym (ap (λ (c : Bool). if c then Some k else (position_from (pid_eq p) (k + 1) ps)) same) ∙ e in

@@ -3,7 +3,7 @@ use Rattle.dm_rule.proofs.Names.{◌≡◌, ℕ, ◌+◌, ◌==◌, ◌&&◌, Bo
 use Rattle.dm_rule.proofs.Names.{id_eq, PlainMessage, PlainWhat, Label, Reply, switchboard, manager, bind, PlainProcess, reg, NamedLink, OneKernel, with_sent, answer_id, id_eq-is, id_eq-same, sent_at, bind-is, when-is, View, is_kernels}
 use Rattle.dm_rule.proofs.Names.{Addresses, Holder, Slot, Owner, Receiver, Sender, Enclosed, Answer, Gets, gets, given, gives, holder_eq, encloses, enclosed_from, sending_gets, fills, call_gets, receives_links, slot_after, landing_gets}
 use Rattle.dm_rule.proofs.Names.{serving_gets, child_links, board_finds, board_keeps, board_gets, telling_gets, manager_sends, manager_gets, both_true, at_hand-is, option_map_or, arith, nat_tests, AskedBy, and_parts, not-true}
-use Rattle.dm_rule.proofs.Names.{false_from_ne_true, and_right}
+use Rattle.dm_rule.proofs.Names.{false_from_ne_true, and_right, none_some}
 use Rattle.dm_onekernel.specs.Calls as calls
 use Rattle.dm_onekernel.specs.Pieces as pieces
 use Rattle.dm_onekernel.specs.Switchboard as board
@@ -87,7 +87,7 @@ send_other : (s t : OneKernel) (p : Pid) (id : MsgId) (n : kernel.Trap) → kern
 send_other s t p id (kernel.Calls number (calls.Sends m y)) e out =
     let k = when-is (id_eq id m.id) (with_sent (kernel.goes_on s p y) (Some m)) t e in
     ap is_kernels (id_eq-is id m.id k.0) ∙ new_outside (kernel.goes_on s p y) t m out k.1
-send_other s t p id _ e out = cc
+send_other s t p id _ e out = none_some t e
 
 -- receives
 pub receives_links_spares : (a : Addresses) (p : Pid) (id : MsgId) (n : ℕ) (slots : List (Option PlainLink)) (ls : List PlainLink) (i : MsgId) → spares i (receives_links a p id n slots ls) ≡ true
@@ -146,7 +146,7 @@ manager_takes_spares s v a m _ None i e = refl
 manager_takes_spares s v a m _ (Some k) i e = search (arith, two_more, e k refl)
 
 took_outside : (s t : OneKernel) (id : MsgId) (k : manage.ManagerTook) (i : MsgId) (o : Option PlainMessage) → k.message ≡ o → Outside t → is_kernels i ≡ true → service.manager_took s id k ≡ t → (x : PlainMessage) → o ≡ Some x → id_eq x.id i ≡ false
-took_outside s t id k i None is out own e x f = cc
+took_outside s t id k i None is out own e x f = none_some x f
 took_outside s t id k i (Some y) is out own e x f =
     let u = record (service.without_message s id) { manager = k.manager } in
     subst (λ (z : PlainMessage). id_eq z.id i ≡ false) (let g : y ≡ x = cc in g) (apart i y.id own (new_outside u t y out (ap (with_sent u) (sym is) ∙ e)))
@@ -163,7 +163,7 @@ takes_spares s t v a id m false true i out own e =
     let (k, is, last) = bind-is o (λ (x : manage.ManagerTook). Some (service.manager_took s id x)) t e in
     let f : service.manager_took s id k ≡ t = cc in
     manager_takes_spares s v a m m.what o i (λ j g. let h : k ≡ j = (let z : Some k ≡ Some j = sym is ∙ g in cc) in subst (λ (y : manage.ManagerTook). (x : PlainMessage) → y.message ≡ Some x → id_eq x.id i ≡ false) h (took_outside s t id k i k.message refl out own f))
-takes_spares s t v a id m false false i out own e = cc
+takes_spares s t v a id m false false i out own e = none_some t e
 
 -- a row a label
 pub gives_spares : (s t : OneKernel) (v : View) (a : Addresses) (l : Label) (i : MsgId) → kernel.step s l ≡ Some t → Outside t → is_kernels i ≡ true → spares i (gives s v a l) ≡ true

@@ -1,7 +1,7 @@
 -- What a process does keeps to its side: what it calls, what it receives, and how its data moves land.
 use Rattle.dm_rulelaws.proofs.Names.{◌≡◌, ℕ, zero, suc, ◌+◌, ◌-◌, ◌==◌, ◌&&◌, Bool, true, false, List, [], ◌∷◌, ◌++◌, length, map, replicate, refl, ap, ◌∙◌, sym, subst, is_some, inl, inr, arith, nat_tests, nat_le, if◌then◌else◌, Option, None, Some}
-use Rattle.dm_rulelaws.proofs.Names.{Pid, pid_eq, PlainLink, MsgId, PlainMessage, PlainWhat, PlainProcess, PlainStatus, Waiting, Moving, Life, Alive, OneKernel, manager, pid_eq-is, Each, ⊤, slice_set, filter_map, link_at, reg, Direction, Reply}
-use Rattle.dm_rulelaws.proofs.Names.{Row, instruction, Called, Replies, Sends, Waits, Outputs, Ends, first_empty, first_failed, bind, bind-is, at_hand-is, running_is, Made, Lives, has_bytes, LinkFits, SlotFits, on_mask, Format, BootImage, begun, slots_of}
+use Rattle.dm_rulelaws.proofs.Names.{Pid, pid_eq, PlainLink, MsgId, PlainMessage, PlainWhat, PlainProcess, PlainStatus, Waiting, Moving, Alive, OneKernel, manager, pid_eq-is, Each, ⊤, slice_set, filter_map, link_at, reg, Direction, Reply, none_some}
+use Rattle.dm_rulelaws.proofs.Names.{Row, instruction, Called, Replies, Sends, Waits, Outputs, Ends, first_empty, first_failed, bind, bind-is, at_hand-is, running_is, Made, SlotFits, on_mask, Format, BootImage, begun, slots_of}
 use Rattle.std.proofs.lemmas.Option.{cond_some}
 use Rattle.dm_onekernel.specs.Calls as calls
 use Rattle.dm_onekernel.specs.Pieces as pieces
@@ -99,7 +99,7 @@ NextKeeps s k i (kernel.Calls number called) = CallKeeps s k i called
 NextKeeps s k i (kernel.Faults fault) = ⊤
 
 next_row_keeps : (s : OneKernel) (k : Sides) (i : ℕ) (p : Pid) (x : PlainProcess) (w : Row) (n : kernel.Trap) → Made s → Each (SlotFits s.processes) x.links → pid_eq p manager ≡ false → IsOn s k i p → Holds s k i x → kernel.next_row p x w ≡ Some n → NextKeeps s k i n
-next_row_keeps s k i p x (Row.Plain regs bytes) n made fits off on h e = cc
+next_row_keeps s k i p x (Row.Plain regs bytes) n made fits off on h e = none_some n e
 next_row_keeps s k i p x (Row.Calls number regs) n made fits off on h e =
     let z = record x { regs = regs } in
     let f : kernel.Calls number (calls.call p z number) ≡ n = cc in
@@ -147,16 +147,16 @@ completes_what_keeps s k i p x m mask base size (PlainWhat.User code channel bod
       area = tt;
     } in
     subst (CompletedKeeps s k (k.of p)) is.1 (completes_keeps s k (k.of p) x after (first_failed (receiving.receive_refusals x size body links)) table placed)
-completes_what_keeps s k i p x m mask base size _ d off table h e = cc
+completes_what_keeps s k i p x m mask base size _ d off table h e = none_some d e
 
 completes_status_keeps : (s : OneKernel) (k : Sides) (i : ℕ) (p : Pid) (x : PlainProcess) (m : PlainMessage) (st : PlainStatus) (d : receiving.Completed) → pid_eq p manager ≡ false → Each (MaybeKeeping s k (k.of p)) x.links → MessageKeeps s k i m m.what
     → receiving.completes_status p x m st ≡ Some d → CompletedKeeps s k (k.of p) d
 completes_status_keeps s k i p x m (Waiting mask base size) d off table h e = completes_what_keeps s k i p x m mask base size m.what d off table h e
-completes_status_keeps s k i p x m _ d off table h e = cc
+completes_status_keeps s k i p x m _ d off table h e = none_some d e
 
 completes_with_keeps : (s : OneKernel) (k : Sides) (i : ℕ) (p : Pid) (x : PlainProcess) (m : PlainMessage) (b : Bool) (d : receiving.Completed) → pid_eq p manager ≡ false → Each (MaybeKeeping s k (k.of p)) x.links → MessageKeeps s k i m m.what
     → (if b then None else receiving.completes_status p x m x.status) ≡ Some d → CompletedKeeps s k (k.of p) d
-completes_with_keeps s k i p x m true d off table h e = cc
+completes_with_keeps s k i p x m true d off table h e = none_some d e
 completes_with_keeps s k i p x m false d off table h e = completes_status_keeps s k i p x m x.status d off table h e
 
 pub completing_keeps : (s : OneKernel) (k : Sides) (p : Pid) (id : MsgId) (d : receiving.Completed) → Made s → Keeps s k → kernel.completing s p id ≡ Some d → CompletedKeeps s k (k.of p) d
@@ -193,16 +193,16 @@ lands_what_keeps s k i p x Direction.IntoArea owner base own left PlainWhat.Writ
     (goes_on_keeps s k i p x Direction.IntoArea owner (base + pieces.piece_of left) (own + pieces.piece_of left) (left - pieces.piece_of left) (left - pieces.piece_of left == 0) links on area) e
 lands_what_keeps s k i p x Direction.FromArea owner base own left PlainWhat.Gone c links on area e = let f : pieces.done Reply.Gone x ≡ c = cc in subst (LandedKeeps s k i p) f (record { links = links; area = tt })
 lands_what_keeps s k i p x Direction.IntoArea owner base own left PlainWhat.Gone c links on area e = let f : pieces.done Reply.Gone x ≡ c = cc in subst (LandedKeeps s k i p) f (record { links = links; area = tt })
-lands_what_keeps s k i p x _ owner base own left _ c links on area e = cc
+lands_what_keeps s k i p x _ owner base own left _ c links on area e = none_some c e
 
 if_lands_what : (s : OneKernel) (k : Sides) (i : ℕ) (p : Pid) (x : PlainProcess) (b : Bool) (dir : Direction) (owner : Pid) (base own left : ℕ) (w : PlainWhat) (c : pieces.Landed) → Each (MaybeKeeping s k i) x.links → IsOn s k i p → IsOn s k i owner
     → (if b then pieces.lands_what p x dir owner base own left w else None) ≡ Some c → LandedKeeps s k i p c
 if_lands_what s k i p x true dir owner base own left w c links on area e = lands_what_keeps s k i p x dir owner base own left w c links on area e
-if_lands_what s k i p x false dir owner base own left w c links on area e = cc
+if_lands_what s k i p x false dir owner base own left w c links on area e = none_some c e
 
 pub lands_keeps : (s : OneKernel) (k : Sides) (i : ℕ) (p : Pid) (x : PlainProcess) (m : PlainMessage) (st : PlainStatus) (c : pieces.Landed) → Each (MaybeKeeping s k i) x.links → IsOn s k i p → AreaKeeps s k i st → pieces.lands p x m st ≡ Some c → LandedKeeps s k i p c
 lands_keeps s k i p x m (Moving dir owner base own left pending) c links on area e = if_lands_what s k i p x (m.id.n == pending) dir owner base own left m.what c links on area e
-lands_keeps s k i p x m _ c links on area e = cc
+lands_keeps s k i p x m _ c links on area e = none_some c e
 
 -- a process begins with these links
 none_slots : (s : OneKernel) (k : Sides) (i n : ℕ) → Each (MaybeKeeping s k i) (replicate n None)

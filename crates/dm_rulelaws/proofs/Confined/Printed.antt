@@ -1,6 +1,6 @@
 -- What sides say of printed lines.
 use Rattle.dm_rulelaws.proofs.Names.{◌≡◌, ◌≢◌, ℕ, ◌&&◌, ◌||◌, Bool, true, false, List, [], ◌∷◌, ◌++◌, refl, ap, ◌∙◌, sym, subst, is_some, inl, inr, arith, nat_tests, if◌then◌else◌, Option, None, Some, cases_Bool, Pid, pid_eq, MsgId, Boot, start, replay, bind, bind-is}
-use Rattle.dm_rulelaws.proofs.Names.{PlainMessage, PlainWhat, PlainProcess, PlainStatus, Waiting, OneKernel, Label, switchboard, manager, pid_eq-is, Step, Line, Point, first_point, Leads, labels, WhatFits, on_mask, at_hand-is, option_map_or, Made}
+use Rattle.dm_rulelaws.proofs.Names.{PlainMessage, PlainWhat, PlainProcess, PlainStatus, Waiting, OneKernel, Label, switchboard, manager, pid_eq-is, Step, Line, Point, first_point, Leads, labels, WhatFits, on_mask, at_hand-is, option_map_or, Made, none_some}
 use Rattle.std.proofs.lemmas.Option.{cond_some}
 use Rattle.dm_rulelaws.specs.Order.{LeadsBy}
 use Rattle.dm_onekernel.specs.Receiving as receiving
@@ -87,14 +87,14 @@ what_on s k i p x m mask base size (PlainWhat.User code channel body links) d of
     let is = cond_some (pid_eq m.to p && on_mask mask channel) (receiving.completes x base size code channel body links) d e in
     let to : m.to ≡ p = pid_eq-is m.to p (both (pid_eq m.to p) (on_mask mask channel) is.0).0 in
     on_of s k i p code off (subst (λ (q : Pid). LinkKeeps s k i q code) to h.1)
-what_on s k i p x m mask base size _ d off h e = cc
+what_on s k i p x m mask base size _ d off h e = none_some d e
 
 status_on : (s : OneKernel) (k : Sides) (i : ℕ) (p : Pid) (x : PlainProcess) (m : PlainMessage) (st : PlainStatus) (d : receiving.Completed) → pid_eq p manager ≡ false → MessageKeeps s k i m m.what → receiving.completes_status p x m st ≡ Some d → IsOn s k i p
 status_on s k i p x m (Waiting mask base size) d off h e = what_on s k i p x m mask base size m.what d off h e
-status_on s k i p x m _ d off h e = cc
+status_on s k i p x m _ d off h e = none_some d e
 
 with_on : (s : OneKernel) (k : Sides) (i : ℕ) (p : Pid) (x : PlainProcess) (m : PlainMessage) (b : Bool) (d : receiving.Completed) → pid_eq p manager ≡ false → MessageKeeps s k i m m.what → (if b then None else receiving.completes_status p x m x.status) ≡ Some d → IsOn s k i p
-with_on s k i p x m true d off h e = cc
+with_on s k i p x m true d off h e = none_some d e
 with_on s k i p x m false d off h e = status_on s k i p x m x.status d off h e
 
 receiver_on : (s t : OneKernel) (k : Sides) (p : Pid) (id : MsgId) → kernel.step s (Label.Receive p id) ≡ Some t → Carried s k → side_of k id ≡ k.of p

@@ -1,7 +1,7 @@
 -- Each step keeps to sides, and so does each run.
 use Rattle.dm_rulelaws.proofs.Names.{◌≡◌, ℕ, ◌+◌, ◌||◌, Bool, true, false, List, [], ◌∷◌, refl, ap, ◌∙◌, sym, subst, is_some, arith, nat_tests, nat_lt, if◌then◌else◌, Option, None, Some, take, drop, Pid, pid_eq, pid_of, PlainLink, MsgId, Boot, IsValid, start, replay}
 use Rattle.dm_rulelaws.proofs.Names.{PlainMessage, PlainWhat, PlainProcess, Alive, Ended, OneKernel, Label, Why, Outcome, MoveNote, Called, with_process, with_sent, with_note, without_message, answer_id, answer_to, switchboard, manager, pid_eq-is, Each, first_number, BootImage, begun}
-use Rattle.dm_rulelaws.proofs.Names.{Sound, KernelFits, Changes, by_step, after_step, start-sound, bind-is, note-is, reception, entry, SlotFits, option_map_or}
+use Rattle.dm_rulelaws.proofs.Names.{Sound, KernelFits, Changes, by_step, after_step, start-sound, bind-is, note-is, reception, entry, SlotFits, option_map_or, none_some}
 use Rattle.dm_onekernel.specs.Pieces as pieces
 use Rattle.dm_onekernel.specs.Receiving as receiving
 use Rattle.dm_onekernel.specs.Service as service
@@ -47,7 +47,7 @@ gone_keeps : (s : OneKernel) (k : Sides) (i : ℕ) (m : PlainMessage) (v w : Pla
 gone_keeps s k i m (PlainWhat.Read base len) w e h = let f : PlainWhat.Gone ≡ w = cc in subst (λ (x : PlainWhat). MessageKeeps s k i (answer_to m x) x) f (h.1, h.0)
 gone_keeps s k i m (PlainWhat.Write base bytes) w e h = let f : PlainWhat.Gone ≡ w = cc in subst (λ (x : PlainWhat). MessageKeeps s k i (answer_to m x) x) f (h.1, h.0)
 gone_keeps s k i m (PlainWhat.Move machine) w e h = let f : PlainWhat.Moved Outcome.Ended ≡ w = cc in subst (λ (x : PlainWhat). MessageKeeps s k i (answer_to m x) x) f (h.0.0, h.0.1)
-gone_keeps s k i m _ w e h = cc
+gone_keeps s k i m _ w e h = none_some w e
 
 -- a process is made
 none_there : (s : OneKernel) (child : Pid) (home : ℕ) → child ≡ pid_of home (first_number + s.made home) → s.processes child ≡ None → is_there s child ≡ false

@@ -1,5 +1,5 @@
 -- What the servers do keeps to the side of the message that they take.
-use Rattle.dm_rulelaws.proofs.Names.{◌≡◌, ℕ, zero, suc, ◌+◌, ◌*◌, ◌==◌, ◌&&◌, Bool, true, false, List, [], ◌∷◌, ◌++◌, length, refl, ap, ◌∙◌, sym, subst, inl, inr, arith, nat_tests, nat_lt, if◌then◌else◌, Option, None, Some, slice_get}
+use Rattle.dm_rulelaws.proofs.Names.{◌≡◌, ℕ, zero, suc, ◌+◌, ◌*◌, ◌==◌, ◌&&◌, Bool, true, false, List, [], ◌∷◌, ◌++◌, length, refl, ap, ◌∙◌, sym, subst, inl, inr, arith, nat_tests, nat_lt, if◌then◌else◌, Option, None, Some, slice_get, none_some}
 use Rattle.dm_rulelaws.proofs.Names.{Pid, pid_eq, pid_of, PlainLink, MsgId, PlainMessage, PlainWhat, OneKernel, with_sent, without_message, switchboard, manager, pid_eq-is, Each, ⊤, NamedLink, Pending, PendingKind, Manager, code_of_outcome, bytes_eq, option_map_or}
 use Rattle.std.proofs.Common.{add-one}
 use Rattle.dm_onekernel.specs.Boot.{is_general}
@@ -114,7 +114,7 @@ board_keeps s k id m (PlainWhat.User code channel body ls) t to f e h =
     let on : IsOn s k (side_of k m.id) switchboard = on_of s k (side_of k m.id) switchboard code refl (subst (λ (p : Pid). LinkKeeps s k (side_of k m.id) p code) is f.1) in
     subst (λ (v : board.BoardTook). Keeps (service.switchboard_took s id v) k) g
     (takes_keeps s k id body ls (subst (λ i. Each (Keeping s k i) ls) (sym on.0) f.2) h)
-board_keeps s k id m _ t to f e h = cc
+board_keeps s k id m _ t to f e h = none_some t e
 
 -- the manager
 abbrev with_manager : OneKernel → Manager → OneKernel
@@ -248,7 +248,7 @@ number_if true x r o P e f g = let k : x ≡ r = cc in subst P k (f refl)
 number_if false x r o P e f g = g e
 
 pending_is : (s : OneKernel) (k : Sides) (n : ℕ) (rs : List Pending) (r : Pending) → manage.pending_numbered n rs ≡ Some r → Each (RequestKeeps s k) rs → (r.n ≡ n) × RequestKeeps s k r
-pending_is s k n [] r e h = cc
+pending_is s k n [] r e h = none_some r e
 pending_is s k n (x ∷ xs) r e h =
     number_if (x.n == n) x r (manage.pending_numbered n xs) (λ v. (v.n ≡ n) × RequestKeeps s k v) e (λ c. ((let z : x.n ≡ n = grind (arith, nat_tests) in z), h.0)) (λ g. pending_is s k n xs r g h.1)
 
@@ -273,7 +273,7 @@ get_last [] y = refl
 get_last (x ∷ xs) y = get_last xs y
 
 get_more : (xs ys : List Pid) (n : ℕ) (p : Pid) → slice_get xs n ≡ Some p → slice_get (xs ++ ys) n ≡ Some p
-get_more [] ys n p e = cc
+get_more [] ys n p e = none_some p e
 get_more (x ∷ xs) ys zero p e = e
 get_more (x ∷ xs) ys (suc n) p e = get_more xs ys n p e
 
@@ -281,12 +281,12 @@ last_child : (xs : List Pid) (y : Pid) → child_numbered (xs ++ y ∷ []) (leng
 last_child xs y = ap (child_numbered (xs ++ y ∷ [])) (add-one (length xs)) ∙ get_last xs y
 
 more_children : (xs ys : List Pid) (n : ℕ) (p : Pid) → child_numbered xs n ≡ Some p → child_numbered (xs ++ ys) n ≡ Some p
-more_children xs ys zero p e = cc
+more_children xs ys zero p e = none_some p e
 more_children xs ys (suc n) p e = get_more xs ys n p e
 
 created_keeps : (s : OneKernel) (k : Sides) (m : PlainMessage) (child : Pid) (o : Option Pending) (t : manage.ManagerTook) → k.told s.manager.sent ≡ side_of k m.id → m.id.from ≡ manager → IsOn s k (side_of k m.id) child → manage.pending_numbered m.id.n s.manager.pending ≡ o
     → manage.takes_answer s.manager m.id.n (s.manager.children ++ child ∷ []) 0 (manage.control_link (length s.manager.children + 1) ∷ []) o ≡ Some t → Keeps s k → ManagerKeeps s k t
-created_keeps s k m child None t new from on is e h = cc
+created_keeps s k m child None t new from on is e h = none_some t e
 created_keeps s k m child (Some r) t new from on is e h =
     let n = m.id.n in
     let children = s.manager.children ++ child ∷ [] in
@@ -301,7 +301,7 @@ created_keeps s k m child (Some r) t new from on is e h =
 -- an answer without a link
 ended_keeps : (s : OneKernel) (k : Sides) (m : PlainMessage) (code : ℕ) (o : Option Pending) (t : manage.ManagerTook) → k.told s.manager.sent ≡ side_of k m.id → m.id.from ≡ manager → manage.pending_numbered m.id.n s.manager.pending ≡ o
     → manage.takes_answer s.manager m.id.n s.manager.children code [] o ≡ Some t → Keeps s k → ManagerKeeps s k t
-ended_keeps s k m code None t new from is e h = cc
+ended_keeps s k m code None t new from is e h = none_some t e
 ended_keeps s k m code (Some r) t new from is e h =
     let n = m.id.n in
     let f : manage.answers_over (record s.manager { children = s.manager.children; pending = manage.without_pending n s.manager.pending }) r.answer code [] ≡ t = cc in
@@ -321,7 +321,7 @@ took_keeps s k machines images m (PlainWhat.User code channel body ls) t to new 
 took_keeps s k machines images m (PlainWhat.Created child) t to new f e h = created_keeps s k m child (manage.pending_numbered m.id.n s.manager.pending) t new f.0.1 f.1 refl e h
 took_keeps s k machines images m PlainWhat.NoRoom t to new f e h = ended_keeps s k m 1 (manage.pending_numbered m.id.n s.manager.pending) t new f.1 refl e h
 took_keeps s k machines images m (PlainWhat.Moved outcome) t to new f e h = ended_keeps s k m (code_of_outcome outcome) (manage.pending_numbered m.id.n s.manager.pending) t new f.1 refl e h
-took_keeps s k machines images m _ t to new f e h = cc
+took_keeps s k machines images m _ t to new f e h = none_some t e
 
 pub manager_keeps : (s : OneKernel) (k : Sides) (id : MsgId) (m : PlainMessage) (t : manage.ManagerTook) → pid_eq m.to manager ≡ true → k.told s.manager.sent ≡ side_of k m.id → MessageKeeps s k (side_of k m.id) m m.what
     → manage.manager_takes s.manager s.machines (length s.images) m m.what ≡ Some t → Keeps s k → Keeps (service.manager_took s id t) k

@@ -3,7 +3,7 @@
 use Rattle.dm_rulelaws.proofs.Names.{by_step, ◌≡◌, ℕ, ◌+◌, ◌++◌, true, List, [], ◌∷◌, length, refl, Option, None, Some, Pid, MsgId, PlainMessage, PlainWhat, Label, Life, OneKernel, Manager, Pending, PlainLink, ascends, ascends_more}
 use Rattle.dm_rulelaws.proofs.Names.{ascends_last, ascends_without, PlainProcess, without_message, PendingKind, answer_id, code_of_outcome, zero, suc, ◌==◌, ◌&&◌, Bool, false, ap, ◌∙◌, sym, subst, nat_lt, arith, ⊤, if◌then◌else◌, slice_get}
 use Rattle.dm_rulelaws.proofs.Names.{nat_tests, manager, NamedLink, with_sent, id_eq-same, stayed, out_at, Sound, Each, Lives, has_bytes, LinkFits, awaits, WhatFits, KernelFits, id_of, IsPending, nat_le, SlotFits, is_for, kind_eq, bytes_eq}
-use Rattle.dm_rulelaws.proofs.Names.{PendingFits, numbered_from, pid_of, MoveNote, cases_Bool, in_bag, inl, inr, option_map_or}
+use Rattle.dm_rulelaws.proofs.Names.{PendingFits, numbered_from, pid_of, MoveNote, cases_Bool, in_bag, inl, inr, option_map_or, none_some}
 use Rattle.dm_onekernel.specs.Kernel as kernels
 use Rattle.dm_onekernel.specs.Manager as manage
 use Rattle.dm_onekernel.specs.Service as service
@@ -149,7 +149,7 @@ answer_if : (ps : Lives) (b : Bool) (x r : Pending) (o : Option Pending) → (if
 answer_if ps b x r o h1 h2 h3 = search arith
 
 answer_fits : (ps : Lives) (n : ℕ) (rs : List Pending) (r : Pending) → manage.pending_numbered n rs ≡ Some r → AnswersFit ps rs → PendingFits ps r
-answer_fits ps n [] r e h = cc
+answer_fits ps n [] r e h = none_some r e
 answer_fits ps n (x ∷ xs) r e h = answer_if ps (x.n == n) x r (manage.pending_numbered n xs) e h.0 (λ g. answer_fits ps n xs r g h.1)
 
 without_fits : (ps : Lives) (n : ℕ) (rs : List Pending) → AnswersFit ps rs → AnswersFit ps (manage.without_pending n rs)
@@ -201,7 +201,7 @@ first_fits ps n [] h1 = search arith
 first_fits ps n (l ∷ ls) h1 = search arith
 
 Each-get : {X : Type 0} (P : X → Type 0) (xs : List X) (k : ℕ) (x : X) → slice_get xs k ≡ Some x → Each P xs → P x
-Each-get P [] k x e h = cc
+Each-get P [] k x e h = none_some x e
 Each-get P (y ∷ ys) zero x e h = let f : y ≡ x = cc in subst P f h.0
 Each-get P (y ∷ ys) (suc k) x e h = Each-get P ys k x e h.1
 

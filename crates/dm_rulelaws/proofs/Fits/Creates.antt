@@ -2,7 +2,7 @@
 use Rattle.dm_rulelaws.proofs.Names.{◌≡◌, ℕ, zero, suc, ◌+◌, ◌-◌, true, List, [], ◌∷◌, ◌++◌, length, map, replicate, refl, ap, ◌∙◌, sym, subst, nat_le, arith, Option, None, Some, false≢true, nat_tests, Pid, pid_of, PlainLink, MsgId}
 use Rattle.dm_rulelaws.proofs.Names.{PlainMessage, PlainWhat, BootImage, first_number, slots_of, Format, Life, Alive, OneKernel, with_process, with_sent, answer_id, answer_to, without_message, begun, Sound, Each, Lives, has_bytes, LinkFits}
 use Rattle.dm_rulelaws.proofs.Names.{SlotFits, ProcessFits, awaits, IsPending, WhatFits, KernelFits, PendingKind, Bool, Label, bind, PlainProcess, PlainStatus, pending_of, bind-is, status_awaits, ◌≤◌, false, ⊤, if◌then◌else◌, common_steps}
-use Rattle.dm_rulelaws.proofs.Names.{first_empty, Row, instruction, written_at, at_hand-is, Runs, move_fits, running_is, KeepsLengths, Regs, instruction-lengths}
+use Rattle.dm_rulelaws.proofs.Names.{first_empty, Row, instruction, written_at, at_hand-is, Runs, move_fits, running_is, KeepsLengths, Regs, instruction-lengths, none_some}
 use Rattle.dm_onekernel.specs.Service as service
 use Rattle.dm_onekernel.specs.Step as kernel
 use Rattle.dm_onekernel.specs.Receiving as receiving
@@ -88,7 +88,7 @@ alive_has : (s : OneKernel) (p : Pid) (x : PlainProcess) (n : ℕ) → s.process
 alive_has s p x n is e = ap (has_bytes n) is ∙ e
 
 next_row_is : (s : OneKernel) (p : Pid) (x : PlainProcess) (w : Row) (n : kernel.Trap) → Runs s p x → KernelFits s → kernel.next_row p x w ≡ Some n → NextIs s p n
-next_row_is s p x (Row.Plain regs bytes) n is h e = cc
+next_row_is s p x (Row.Plain regs bytes) n is h e = none_some n e
 next_row_is s p x (Row.Calls number regs) n is h e =
     let z = record x { regs = regs } in
     let f : kernel.Calls number (calls.call p z number) ≡ n = cc in
@@ -130,7 +130,7 @@ StatusCompletes s x st d = (pending_of st ≡ None) × CompletedFits s.processes
 
 completes_with_fits : (s : OneKernel) (p : Pid) (x : PlainProcess) (i : MsgId) (m : PlainMessage) (b : Bool) (d : receiving.Completed) → WhatFits s i m m.what → ProcessFits s.processes x → (if b then None else receiving.completes_status p x m x.status) ≡ Some d
     → StatusCompletes s x x.status d
-completes_with_fits s p x i m true d f h e = cc
+completes_with_fits s p x i m true d f h e = none_some d e
 completes_with_fits s p x i m false d f h e = search (arith, x.status, completes_what_fits)
 
 pub record Completing (s : OneKernel) (p : Pid) (d : receiving.Completed) : Type 0 where

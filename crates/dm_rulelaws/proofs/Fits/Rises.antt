@@ -1,6 +1,6 @@
 -- What fits goes on fitting as long as processes are only made, end, and keep their memory.
 use Rattle.dm_rulelaws.proofs.Names.{◌≡◌, ℕ, ◌+◌, ◌≤◌, ◌&&◌, ◌||◌, Bool, true, false, List, [], ◌∷◌, length, refl, ap, ◌∙◌, sym, subst, inl, inr, arith, if◌then◌else◌, Option, None, Some, cases_Bool, Pid, pid_eq, PlainLink, MsgId}
-use Rattle.dm_rulelaws.proofs.Names.{PlainMessage, PlainWhat, PlainProcess, PlainStatus, Life, Alive, Ended, NamedLink, Pending, OneKernel, with_process, with_sent, without_message, pid_eq-is, pid_eq-same, stayed, came, Each, Lives}
+use Rattle.dm_rulelaws.proofs.Names.{PlainMessage, PlainWhat, PlainProcess, PlainStatus, Life, Alive, Ended, NamedLink, Pending, OneKernel, with_process, with_sent, without_message, pid_eq-is, stayed, came, Each, Lives}
 use Rattle.dm_rulelaws.proofs.Names.{has_bytes, is_server, takes_users, gives_no_right, LinkFits, SlotFits, move_fits, ProcessFits, awaits, IsPending, WhatFits, KernelFits, is_for, NoteFits, PendingFits, Manager, MoveNote, PendingKind}
 use Rattle.dm_rulelaws.proofs.Names.{zero, suc, take, drop, filter_map, nat_le, min, ⊤, slice_set, nat_tests, length-take, link_at, Direction, Reply, reg, Called, Replies, Sends, Waits, Outputs, Ends, status_awaits, eq_self, or_first}
 pub use Rattle.dm_rule.proofs.Homes.Servers.{and-both as both}

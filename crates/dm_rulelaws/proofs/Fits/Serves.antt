@@ -2,7 +2,7 @@
 use Rattle.dm_rulelaws.proofs.Names.{◌≡◌, ℕ, ◌+◌, ◌-◌, ◌≤◌, ◌==◌, ◌&&◌, Bool, true, false, List, length, take, drop, refl, ap, ◌∙◌, sym, subst, nat_le, arith, if◌then◌else◌, Option, None, Some, nat_tests, length-take, length-drop, Pid}
 use Rattle.dm_rulelaws.proofs.Names.{MsgId, id_of, Reply, PlainMessage, PlainWhat, Direction, PlainProcess, PlainStatus, Moving, Life, Alive, OneKernel, with_process, with_sent, answer_id, answer_to, without_message, is_of_memory, is_piece}
 use Rattle.dm_rulelaws.proofs.Names.{pending_of, One, stayed, Sound, Each, Lives, has_bytes, SlotFits, move_fits, ProcessFits, piece_fits, status_awaits, awaits, WhatFits, KernelFits, inl, inr, cases_Bool, pid_eq, IsPending, MoveNote}
-use Rattle.dm_rulelaws.proofs.Names.{NoteFits, Outcome, PendingKind, note-is, with_note, without_note, Label, id_eq-same, bind-is}
+use Rattle.dm_rulelaws.proofs.Names.{NoteFits, Outcome, PendingKind, note-is, with_note, without_note, Label, id_eq-same, bind-is, none_some}
 use Rattle.dm_onekernel.specs.Step as kernel
 use Rattle.dm_onekernel.specs.Pieces as pieces
 use Rattle.dm_onekernel.specs.Service as service
@@ -93,7 +93,7 @@ lands_what_fits ps p x Direction.IntoArea owner base own left PlainWhat.Written 
 )
 lands_what_fits ps p x Direction.FromArea owner base own left PlainWhat.Gone c h has within e = let k : pieces.done Reply.Gone x ≡ c = cc in (subst (LandedFits ps p x) k (done_fits ps p x x Reply.Gone (omega arith) refl h), refl)
 lands_what_fits ps p x Direction.IntoArea owner base own left PlainWhat.Gone c h has within e = let k : pieces.done Reply.Gone x ≡ c = cc in (subst (LandedFits ps p x) k (done_fits ps p x x Reply.Gone (omega arith) refl h), refl)
-lands_what_fits ps p x _ owner base own left _ c h has within e = cc
+lands_what_fits ps p x _ owner base own left _ c h has within e = none_some c e
 
 -- a mover whose request is answered is awaited by no other message
 record LandsIs (ps : Lives) (p : Pid) (x : PlainProcess) (m : PlainMessage) (c : pieces.Landed) : Type 0 where
@@ -103,7 +103,7 @@ record LandsIs (ps : Lives) (p : Pid) (x : PlainProcess) (m : PlainMessage) (c :
 
 lands_by : (ps : Lives) (p : Pid) (x : PlainProcess) (m : PlainMessage) (st : PlainStatus) (c : pieces.Landed) → x.status ≡ st → ProcessFits ps x → pieces.lands p x m st ≡ Some c → LandsIs ps p x m c
 lands_by ps p x m (Moving dir owner base own left pending) c is h e = search (arith, x.memory, h.move, both, m.what, lands_what_fits)
-lands_by ps p x m _ c is h e = cc
+lands_by ps p x m _ c is h e = none_some c e
 
 -- what a status awaits is under its pending number, and of a data move
 awaited_is : (st : PlainStatus) (n k : ℕ) (w : PlainWhat) → pending_of st ≡ Some k → status_awaits st n w ≡ true → n ≡ k

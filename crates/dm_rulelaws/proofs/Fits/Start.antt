@@ -3,7 +3,7 @@ use Rattle.dm_rulelaws.proofs.Names.{◌≡◌, ℕ, zero, suc, ◌+◌, ◌*◌
 use Rattle.dm_rulelaws.proofs.Names.{if◌then◌else◌, slice_get, option_map, Option, None, Some, cases_Bool, false≢true, nat_tests, length-append, length-replicate, Link, Pid, pid_eq, plain_link, MsgId, BootImage, BootProcess, Boot, Label}
 use Rattle.dm_rulelaws.proofs.Names.{IsValid, switchboard, manager, starting_at, processes_are_valid, process_is_valid, links_are_valid, link_is_valid, leads_to_process, leads_to_server, controls_child, process_named, memory_size}
 use Rattle.dm_rulelaws.proofs.Names.{area_is_empty, blocks_of_image, PlainProcess, Life, Alive, OneKernel, start, begun, memory_of, first_life, life_at, pid_eq-same, Sound, Each, has_bytes, gives_no_right, LinkFits, ProcessFits, KernelFits}
-use Rattle.dm_rulelaws.proofs.Names.{by_step, Changes, PlainMessage, PlainWhat, Why, Called, with_sent, without_message, answer_to, pid_of, first_number, pid_eq-is, WhatFits}
+use Rattle.dm_rulelaws.proofs.Names.{by_step, Changes, PlainMessage, PlainWhat, Why, Called, with_sent, without_message, answer_to, pid_of, first_number, pid_eq-is, WhatFits, none_some}
 use Rattle.dm_rule.proofs.Changes.{Next}
 use Rattle.dm_onekernel.specs.Step as kernel
 use Rattle.dm_onekernel.specs.Receiving as receiving
@@ -93,7 +93,7 @@ named_by : (b : Boot) (c : Bool) (r p : BootProcess) (o : Option BootProcess) (l
 named_by b c r p o l n h1 h2 h3 h4 = search (arith, begins_with, b.images, r.image)
 
 named_has : (b : Boot) (ps : List BootProcess) (q : Pid) (p : BootProcess) (n : ℕ) → Each (ProcessIs b) ps → process_named q ps ≡ Some p → nat_le n (memory_size b (Some p)) ≡ true → has_bytes n (life_at b ps q) ≡ true
-named_has b [] q p n is e le = cc
+named_has b [] q p n is e le = none_some p e
 named_has b (r ∷ rs) q p n is e le = named_by b (pid_eq r.pid q) r p (process_named q rs) (life_at b rs q) n e is.0 le (λ f. named_has b rs q p n is.1 f le)
 
 -- links of the file

@@ -2,9 +2,9 @@
 use Rattle.dm_rulelaws.proofs.Names.{◌≡◌, ◌⊎◌, ℕ, zero, suc, ◌+◌, ◌≤◌, ◌==◌, Bool, true, false, not, filter, List, [], ◌∷◌, ◌++◌, refl, sym, subst, inl, inr, arith, ⊤, if◌then◌else◌, drop, Option, None, Some, Pid, MsgId, MessageKind, Label}
 use Rattle.dm_rulelaws.proofs.Names.{id_eq-is, id_eq-same, Line, Stage, at_machine, at_pair, at_record, without_id, without_front, View, Pair, Told, About, view_after, after_label, after_put, after_taken, after_stage, after_proto, handled}
 use Rattle.dm_rulelaws.proofs.Names.{handled_first, queued_for, held_for, forwarded_for, rejoins, served_told, receiver_of, taken_id, oldest, routed_on, Spot, Queue, Held, Inbox, Untaken, times, untaken, standing, eq_is, parts, at_place}
-use Rattle.dm_rulelaws.proofs.Names.{pair_keeps, times-append, machine_of, ap, ◌∙◌, cases_Bool, false≢true, Place, id_eq, manager, OneKernel, is_kernels, own_id, Addresses, Holder, Receiver, Sender, Gets, given, holder_eq, place_known}
+use Rattle.dm_rulelaws.proofs.Names.{pair_keeps, times-append, machine_of, ap, ◌∙◌, cases_Bool, Place, manager, OneKernel, is_kernels, own_id, Addresses, Holder, Receiver, Sender, Gets, given, holder_eq, place_known}
 use Rattle.dm_rulelaws.proofs.Names.{all_follow, is_told_back, told_back_gets, forwards, place_told, is_behind, updated_to, updated, own_given, first_gives, one_of, put_told_off, put_at, Goes, Comes, Named, Links, holder_is}
-use Rattle.dm_rulelaws.proofs.Names.{unnamed_receiver, unnamed_sender, put_named, told_again, is_own, leads_where, behind_where, plain_gives, not_own, ◌<◌, is_some, nat_tests, PlainMessage, is_fixed, by_step, MoveNote, sort_of, dropped_for, is_made, is_server, ◌||◌}
+use Rattle.dm_rulelaws.proofs.Names.{unnamed_receiver, unnamed_sender, put_named, told_again, is_own, leads_where, behind_where, plain_gives, ◌<◌, is_some, nat_tests, PlainMessage, is_fixed, by_step, MoveNote, sort_of, dropped_for, is_made, is_server, ◌||◌}
 use Rattle.dm_rule.proofs.Trails.Places.{Owns}
 use Rattle.dm_rulelaws.proofs.Based.Sets.{set_all, without_fewer, front_fewer, last_of}
 use Rattle.dm_rulelaws.proofs.Fits.Constants.{step_constant}

@@ -1,6 +1,6 @@
 -- Whom addresses are of is a kernel of a machine that there is, or a process or a server that its home knows.
 use Rattle.dm_rulelaws.proofs.Names.{◌≡◌, ◌⊎◌, ℕ, zero, suc, ◌<◌, ◌==◌, ◌||◌, Bool, true, false, is_some, nat_lt, List, [], ◌∷◌, refl, ap, ◌∙◌, sym, subst, inl, inr, arith, if◌then◌else◌, slice_get, Option, None, Some, nat_tests, Pid}
-use Rattle.dm_rulelaws.proofs.Names.{PlainLink, link_at, MsgId, PlainMessage, PlainWhat, switchboard, manager, PlainProcess, Life, Pending, Made, alive-is, View, Holder, Slot, Owner, Receiver, Sender, Enclosed, Child, Name, Answer}
+use Rattle.dm_rulelaws.proofs.Names.{PlainLink, link_at, MsgId, PlainMessage, PlainWhat, switchboard, manager, PlainProcess, Life, Pending, Made, alive-is, View, Holder, Slot, Owner, Receiver, Sender, Enclosed, Child, Name, Answer, none_some}
 use Rattle.dm_rulelaws.proofs.Names.{link_target, to_of, sender_of, names, Point, Each, has_bytes, is_server, LinkFits, WhatFits, awaits, is_fixed, gives_no_right, ◌&&◌, ◌+◌, MoveNote, AskedBy, ToBoard, asker_in, option_and_then, owner_in, Lives}
 use Rattle.dm_onekernel.specs.Manager as manage
 use Rattle.dm_onekernel.specs.Step as kernel
@@ -57,12 +57,12 @@ what_real pt n i m x h1 h3 = search (arith, or_cases, m.to, pt.kernel.processes,
 
 -- one of a list
 each_get : {X : Type 0} (P : X → Type 0) (xs : List X) (k : ℕ) (x : X) → Each P xs → slice_get xs k ≡ Some x → P x
-each_get P [] k x h e = cc
+each_get P [] k x h e = none_some x e
 each_get P (y ∷ ys) zero x h e = let f : y ≡ x = cc in subst P f h.0
 each_get P (y ∷ ys) (suc k) x h e = each_get P ys k x h.1 e
 
 pub each_pending : (P : Pending → Type 0) (rs : List Pending) (k : ℕ) (r : Pending) → Each P rs → manage.pending_numbered k rs ≡ Some r → P r
-each_pending P [] k r h e = cc
+each_pending P [] k r h e = none_some r e
 each_pending P (x ∷ xs) k r h e = by (x.n == k) (each_pending P xs k r h.1) e
   where
     by : (c : Bool) → (manage.pending_numbered k xs ≡ Some r → P r) → (if c then Some x else manage.pending_numbered k xs) ≡ Some r → P r
@@ -70,37 +70,37 @@ each_pending P (x ∷ xs) k r h e = by (x.n == k) (each_pending P xs k r h.1) e
     by false rest f = rest f
 
 link_there : (o : Option PlainLink) (q : Pid) → link_target o ≡ Some q → (l : PlainLink) × (o ≡ Some l) × (l.to ≡ q)
-link_there None q e = cc
+link_there None q e = none_some q e
 link_there (Some l) q e = (l, refl, (let f : l.to ≡ q = cc in f))
 
 -- each kind of holder
 slot_real : (pt : Point) (n : ℕ) (p : Pid) (k : ℕ) (q : Pid) (o : Option PlainProcess) → LineCore n pt → kernel.alive (pt.kernel.processes p) ≡ o → link_target (option_and_then (λ x. link_at x.links k) o) ≡ Some q
     → IsReal n pt.kernel.processes pt.view q
-slot_real pt n p k q None h is e = cc
+slot_real pt n p k q None h is e = none_some q e
 slot_real pt n p k q (Some x) h is e =
     let (l, at, to) = link_there (link_at x.links k) q e in
     subst (IsReal n pt.kernel.processes pt.view) to (link_real pt n l h (slot_link pt.kernel.processes x.links k l at (h.fits.processes p x (alive-is (pt.kernel.processes p) x is)).slots))
 
 owner_real : (pt : Point) (n : ℕ) (p q : Pid) (o : Option PlainProcess) → LineCore n pt → kernel.alive (pt.kernel.processes p) ≡ o → (option_and_then (λ x. owner_in x.status) o) ≡ Some q → IsReal n pt.kernel.processes pt.view q
-owner_real pt n p q None h is e = cc
+owner_real pt n p q None h is e = none_some q e
 owner_real pt n p q (Some x) h is e = search (arith, pt.view, made_real, has_some, pt.kernel.processes, both, (h.fits.processes p x (alive-is (pt.kernel.processes p) x is)).move)
 
 receiver_real : (pt : Point) (n : ℕ) (i : MsgId) (q : Pid) (o : Option PlainMessage) → LineCore n pt → pt.kernel.bag i ≡ o → to_of o ≡ Some q → IsReal n pt.kernel.processes pt.view q
-receiver_real pt n i q None h is e = cc
+receiver_real pt n i q None h is e = none_some q e
 receiver_real pt n i q (Some m) h is e = let f : m.to ≡ q = cc in subst (IsReal n pt.kernel.processes pt.view) f (what_real pt n i m m.what h (h.fits.messages i m is))
 
 pub sends_real : (pt : Point) (n : ℕ) (q : Pid) → LineCore n pt → Sends n pt.kernel q → IsReal n pt.kernel.processes pt.view q
 sends_real pt n q h s = search (arith, made_real)
 
 sender_real : (pt : Point) (n : ℕ) (i : MsgId) (q : Pid) (o : Option PlainMessage) → LineCore n pt → pt.kernel.bag i ≡ o → sender_of o ≡ Some q → IsReal n pt.kernel.processes pt.view q
-sender_real pt n i q None h is e = cc
+sender_real pt n i q None h is e = none_some q e
 sender_real pt n i q (Some m) h is e = let f : m.sender ≡ q = cc in subst (IsReal n pt.kernel.processes pt.view) f (sends_real pt n m.sender h (h.senders i m is))
 
 answer_real : (pt : Point) (n k : ℕ) (q : Pid) (o : Option Pending) → LineCore n pt → manage.pending_numbered k pt.kernel.manager.pending ≡ o → link_target (option_and_then (λ r. r.answer) o) ≡ Some q → IsReal n pt.kernel.processes pt.view q
 answer_real pt n k q o h1 h3 h4 = search (arith, link_there, pt.kernel.processes, each_pending, pt.kernel.manager.pending, pt.view, link_real)
 
 asker_real : (pt : Point) (n : ℕ) (p q : Pid) (o : Option MoveNote) → LineCore n pt → pt.kernel.notes p ≡ o → asker_in o ≡ Some q → IsReal n pt.kernel.processes pt.view q
-asker_real pt n p q None h is e = cc
+asker_real pt n p q None h is e = none_some q e
 asker_real pt n p q (Some z) h is e =
     let f : z.asker ≡ q = cc in
     subst (IsReal n pt.kernel.processes pt.view) (sym (h.fits.notes p z is).asker ∙ f) (server_real pt n manager h refl)

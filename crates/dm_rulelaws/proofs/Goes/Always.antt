@@ -13,7 +13,7 @@ use Rattle.dm_rulelaws.proofs.Goes.Serves.{can_turn}
 use Rattle.dm_rulelaws.proofs.Goes.Turns.{no_preds, queue_drops}
 use Rattle.dm_rulelaws.proofs.Goes.Front.{here_free, begun, begun_sane, Calm, CanTurn, Front}
 use Rattle.dm_rulelaws.proofs.Goes.Servers.{can_handle, server_number}
-use Rattle.dm_rulelaws.proofs.Names.{Place, ToBoard, Child, option_map, switchboard, manager}
+use Rattle.dm_rulelaws.proofs.Names.{Place, ToBoard, Child, option_map, switchboard, manager, none_some}
 use Rattle.dm_rulelaws.proofs.Goes.Own.{FrontOwn, can_hear, sends_plain}
 
 -- the message at the front of an inbox
@@ -67,7 +67,7 @@ can_turn_by b m o (i ∷ is) box h own = can_front b m o i is (o.kernel.bag i) r
 
 -- the manager's children are processes
 child_made : (s : OneKernel) (n k : ℕ) (p : Pid) (qs : List Pid) → (position_from (pid_eq p) n qs) ≡ Some k → Each (λ (q : Pid). has_bytes 0 (s.processes q) ≡ true) qs → has_bytes 0 (s.processes p) ≡ true
-child_made s n k p [] e h = cc
+child_made s n k p [] e h = none_some k e
 child_made s n k p (q ∷ qs) e h = elim (cases_Bool (pid_eq p q)) [
   | inl same ↦ ap (λ (r : Pid). has_bytes 0 (s.processes r)) (pid_eq-is p q same) ∙ h.0
   | inr off ↦ child_made s (n + 1) k p qs (sym (ap (λ (c : Bool). if c then Some n else (position_from (pid_eq p) (n + 1) qs)) off) ∙ e) h.1

@@ -1,7 +1,7 @@
 -- The message at the front of the inbox: what it is for whom.
 use Rattle.dm_rulelaws.proofs.Names.{◌≡◌, ℕ, ◌≤◌, ◌==◌, true, false, List, [], ◌∷◌, refl, ap, ◌∙◌, sym, subst, is_some, arith, Option, None, Some, Pid, pid_eq, MsgId, id_eq, plain_kind, Step, Line}
 use Rattle.dm_rulelaws.proofs.Names.{PlainMessage, PlainWhat, Boot, switchboard, manager, OneKernel, with_sent, answer_id, answer_to, Made, id_eq-same, pid_eq-same, sent_at, Point, moved, Inbox, times, standing, View, Told, Sane, is_server}
-use Rattle.dm_rulelaws.proofs.Names.{WhatFits, is_fixed, are_home, Part, is_still, is_here, bind, Label, MoveNote, Outcome, without_note, false≢true, Routes, answers_move, sort_of}
+use Rattle.dm_rulelaws.proofs.Names.{WhatFits, is_fixed, are_home, Part, is_still, is_here, bind, Label, MoveNote, Outcome, without_note, false≢true, Routes, answers_move, sort_of, none_some}
 use Rattle.dm_rulelaws.proofs.Goes.Parts.{does_label, Does, does_nothing, does_route, sane_by, Can}
 use Rattle.dm_rulelaws.proofs.Based.Noted.{Away}
 use Rattle.dm_rulelaws.proofs.Runs.{Run}
@@ -112,7 +112,7 @@ does_routes C pt None there last = does_nothing C pt
 does_routes C pt (Some x) there last = does_route C pt x.id x (there x refl) (λ c s user. last x refl c s)
 
 pub sent_there : (u : OneKernel) (k : Option PlainMessage) (x : PlainMessage) → k ≡ Some x → (with_sent u k).bag x.id ≡ Some x
-sent_there u None x e = cc
+sent_there u None x e = none_some x e
 sent_there u (Some y) x e = let f : y ≡ x = cc in subst (λ (z : PlainMessage). (with_sent u (Some y)).bag z.id ≡ Some z) f (sent_at u y y.id (id_eq-same y.id))
 
 -- the end of a move is answered

@@ -2,7 +2,7 @@
 use Rattle.dm_rulelaws.proofs.Names.{◌≡◌, ℕ, zero, suc, ◌+◌, ◌≤◌, ◌==◌, ◌&&◌, Bool, true, false, List, [], ◌∷◌, refl, ap, ◌∙◌, sym, is_some, nat_lt, inl, inr, arith, if◌then◌else◌, Option, None, Some, cases_Bool, false≢true, nat_tests, Pid}
 use Rattle.dm_rulelaws.proofs.Names.{pid_eq, MsgId, id_eq, Label, Why, Line, PlainMessage, PlainWhat, on_mask, instruction, Boot, Reply, reply_eq, reply_code, why_code, bind, when, PlainProcess, PlainStatus, Ready, Waiting, Alive, Ended}
 use Rattle.dm_rulelaws.proofs.Names.{OneKernel, with_process, with_sent, without_message, id_eq-is, id_eq-same, pid_eq-same, sent_at, bind-is, alive-is, counts, Point, moved, Part, Routes, times, is_kernels, not_kernels, switchboard}
-use Rattle.dm_rulelaws.proofs.Names.{manager, not_server, nexts, are_home, Sane, eq_self, not_is, zero_if, runnable_home, option_map_or, Life, Moving, View, ends_with, preds_of}
+use Rattle.dm_rulelaws.proofs.Names.{manager, not_server, nexts, are_home, Sane, eq_self, not_is, zero_if, runnable_home, option_map_or, Life, Moving, View, ends_with, preds_of, none_some}
 use Rattle.dm_rulelaws.proofs.Fits.Rises.{set_at, both}
 use Rattle.dm_rulelaws.proofs.Goes.Parts.{said, no_receive, Shape, Quiet, Takes, Does, does_nothing, does_label, does_route, sane_by, Can, can_as, can_line}
 use Rattle.dm_rulelaws.proofs.Own.Told.{EndsOwns, NoOwns, OwnsFit, ends_later}
@@ -129,7 +129,7 @@ awaited_if : (s : OneKernel) (mask : ℕ) (j : MsgId) (js : List MsgId) (i : Msg
 awaited_if s mask j js i c h1 h2 h3 = search (arith, s.bag, times_self, times_more)
 
 pub first_is : (s : OneKernel) (mask : ℕ) (ids : List MsgId) (i : MsgId) → rule.first_awaited s mask ids ≡ Some i → Awaited s mask ids i
-first_is s mask [] i e = cc
+first_is s mask [] i e = none_some i e
 first_is s mask (j ∷ js) i e = awaited_if s mask j js i (rule.is_awaited mask (s.bag j)) refl e (first_is s mask js i)
 
 called_quiet : (p : Pid) (n : ℕ) (over : List Part) (c : calls.Called) → no_receive (said over) ≡ true → no_receive (said (rule.called p n over c)) ≡ true
@@ -240,7 +240,7 @@ pub record Runnable (s : OneKernel) (queue : Pid → List MsgId) (p : Pid) : Typ
   pub go : rule.status_can_go s (queue p) x.status ≡ true
 
 runnable_is : (s : OneKernel) (queue : Pid → List MsgId) (ps : List Pid) (q : Pid) → rule.first_runnable s queue ps ≡ Some q → Runnable s queue q
-runnable_is s queue [] q e = cc
+runnable_is s queue [] q e = none_some q e
 runnable_is s queue (p ∷ ps) q e = search (arith, rule.can_go s (queue p) (kernel.alive (s.processes p)), runnable_is s queue ps q, both, alive-is, not_is)
 
 can_go_round : (C : Type 0) (b : Boot) (m : ℕ) (o pt : Point) (p : Option Pid) → o.kernel ≡ pt.kernel → ((q : Pid) → o.view.queue m q ≡ pt.view.queue m q) → ((q : Pid) → p ≡ Some q → Runnable pt.kernel (o.view.queue m) q) → ((q : Pid) → p ≡ Some q → pt.kernel.notes q ≡ None) → ((q : Pid) → Droppable pt.kernel q (o.view.queue m q)) → (C → (q : Pid) → preds_of o m q ≡ [])

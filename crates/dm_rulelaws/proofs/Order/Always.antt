@@ -2,7 +2,7 @@
 use Rattle.dm_rulelaws.proofs.Names.{◌≡◌, suc, Bool, true, false, List, [], ◌∷◌, ◌++◌, refl, ap, ◌∙◌, sym, subst, arith, Option, Some, false≢true, Pid, MsgId, id_of, Boot, IsValid, Label, OneKernel, bind, start, replay, Step, Line, Spelled}
 use Rattle.dm_rulelaws.proofs.Names.{Point, first_point, labels, moved, LeadsBy, ReceivesInOrder, AreStill, ℕ, ◌+◌, ◌≤◌, inl, inr, if◌then◌else◌, None, cases_Bool, nat_tests, id_eq, PlainMessage, PlainWhat, on_mask, in_bag, counts}
 use Rattle.dm_rulelaws.proofs.Names.{pid_eq-same, id_eq-is, id_eq-same, after_step, without_id, times, untaken, View, after_label, Each, channel_in, is_for_home, are_for_home, About, NothingElse, begins, marked, homes_of, Sane, AskNone}
-use Rattle.dm_rulelaws.proofs.Names.{first_view, spelled, ordered, first_one, first_not, drop_one, put_not}
+use Rattle.dm_rulelaws.proofs.Names.{first_view, spelled, ordered, first_one, first_not, drop_one, put_not, none_some}
 use Rattle.dm_rulelaws.proofs.RunLabels.{labels-append, replay-append, group_replay}
 use Rattle.dm_rulelaws.proofs.Goes.Parts.{said, Shape, Quiet, Takes, Goes, Reception, not_receive, no_receive, sane_by, AsksNone, unasked}
 use Rattle.dm_rulelaws.proofs.Goes.Always.{CalmFor, group_on}
@@ -86,14 +86,14 @@ first_by : (s : OneKernel) (g : MsgId → Bool) (mask from : ℕ) (j : MsgId) (j
 first_by s g mask from j js rest i c h1 h2 h3 h4 h5 h6 = search (arith, first_one, id_eq-same, i.n, s.bag, id_eq-is, put_not, first_not)
 
 first_goes : (s : OneKernel) (g : MsgId → Bool) (mask from : ℕ) (is rest : List MsgId) (i : MsgId) → rule.first_awaited s mask is ≡ Some i → ((k : MsgId) → g k ≡ true → rule.is_awaited mask (s.bag k) ≡ true) → g i ≡ true → ordered g from (is ++ rest) ≡ true → ordered g (i.n + 1) (without_id i is ++ rest) ≡ true
-first_goes s g mask from [] rest i e awaited one h = cc
+first_goes s g mask from [] rest i e awaited one h = none_some i e
 first_goes s g mask from (j ∷ js) rest i e awaited one h =
     first_by s g mask from j js rest i (rule.is_awaited mask (s.bag j)) refl e awaited one h (λ f k. first_goes s g mask from js rest i f awaited one k)
 
 -- channels
 mask_of : (mask c : ℕ) (w : PlainWhat) → rule.what_is_awaited mask w ≡ true → channel_in w ≡ Some c → on_mask mask c ≡ true
 mask_of mask c (PlainWhat.User code channel body links) e f = let k : channel ≡ c = cc in ap (on_mask mask) (sym k) ∙ e
-mask_of mask c _ e f = cc
+mask_of mask c _ e f = none_some c f
 
 awaited_on : (mask c : ℕ) (w : PlainWhat) → on_channel c w ≡ true → on_mask mask c ≡ true → rule.what_is_awaited mask w ≡ true
 awaited_on mask c (PlainWhat.User code channel body links) e f = let k : channel ≡ c = grind (arith, nat_tests) in ap (on_mask mask) k ∙ f
@@ -231,7 +231,7 @@ queued_home s m (j ∷ js) i h least = elim (cases_Bool (id_eq i j)) [
 ]
 
 home_is : (m : ℕ) (o : Option PlainMessage) (x : PlainMessage) → o ≡ Some x → is_for_home m o ≡ true → x.to.home ≡ m
-home_is m None x e h = cc
+home_is m None x e h = none_some x e
 home_is m (Some y) x e h = let f : y ≡ x = cc in let g : y.to.home ≡ m = grind (arith, nat_tests) in ap (λ (v : PlainMessage). v.to.home) (sym f) ∙ g
 
 taking_home : (b : Boot) (pt : Point) (d : Step) (p : Pid) (mask : ℕ) (i : MsgId) → Stays b pt → rule.first_awaited pt.kernel mask ((view.after_head pt.view d).queue (view.actor pt.view d) p) ≡ Some i → p.home ≡ view.actor pt.view d

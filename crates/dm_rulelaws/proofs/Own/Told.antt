@@ -3,7 +3,7 @@ use Rattle.dm_rulelaws.proofs.Names.{◌≡◌, ◌==◌, ◌&&◌, Bool, true, 
 use Rattle.dm_rulelaws.proofs.Names.{is_server, is_fixed, Sort, sort_of, arith, ℕ, List, [], ◌∷◌, ◌++◌, ⊤, if◌then◌else◌, Option, None, pid_of, Line, Stage, Addresses, Sender, to_kernel, forwards_on, accepts, takes_chunk, takes_block}
 use Rattle.dm_rulelaws.proofs.Names.{gives_piece, sends_on, label_of, Part, Says, Routes, Again, Owns, Transmits, View, Known, Forward, view_after, handled, receiver_of, Label, ◌⊎◌, subst, is_some, length, inl, inr, take, drop, PlainWhat}
 use Rattle.dm_rulelaws.proofs.Names.{switchboard, manager, Switchboard, Manager, OneKernel, with_sent, answer_to, without_message, Made, came, stayed, lands-is, Sound, by_step, answer_id, without_note, MoveNote, buries, bury_is}
-use Rattle.dm_rulelaws.proofs.Names.{ends_with, map, preds_of, right_true, tells_between, tells_end, topic_by}
+use Rattle.dm_rulelaws.proofs.Names.{ends_with, map, preds_of, right_true, tells_between, tells_end, topic_by, none_some}
 use Rattle.dm_rule.specs.View.{Place}
 use Rattle.dm_rule.specs.View as view
 use Rattle.dm_onekernel.specs.Pieces as pieces
@@ -191,7 +191,7 @@ SentBy q (Some m) = m.sender ≡ q
 
 pub board_sender : (b : Switchboard) (m : PlainMessage) (w : PlainWhat) (k : board.BoardTook) → board.board_takes b m w ≡ Some k → SentBy switchboard k.answer
 board_sender b m (PlainWhat.User code channel body links) k e = search arith
-board_sender b m _ k e = cc
+board_sender b m _ k e = none_some k e
 
 pub manager_sender : (g : Manager) (machines images : ℕ) (m : PlainMessage) (w : PlainWhat) (k : manage.ManagerTook) → manage.manager_takes g machines images m w ≡ Some k → SentBy manager k.message
 manager_sender g machines images m w k = search (arith, by_over, by_manager, g.children, m.id.n, g.pending)

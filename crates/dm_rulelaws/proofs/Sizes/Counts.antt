@@ -1,6 +1,6 @@
 -- How many messages of lists are for a server, and sums of such numbers over the first machines.
 use Rattle.dm_rulelaws.proofs.Names.{◌≡◌, ℕ, zero, suc, ◌+◌, ◌*◌, ◌≤◌, ◌<◌, ◌==◌, ◌&&◌, Bool, true, false, List, [], ◌∷◌, ◌++◌, length, refl, ap, ◌∙◌, sym, subst, inl, inr, arith, nat_tests, if◌then◌else◌, drop, slice_get, Option, None, Some, cases_Bool, option_map_or, Pid}
-use Rattle.dm_rulelaws.proofs.Names.{pid_eq, MsgId, id_eq, id_eq-same, times, View, Told, Pair, without_front, first_of, at_machine, at_pair, eq_is, parts, receiver_of, pid_eq-same}
+use Rattle.dm_rulelaws.proofs.Names.{pid_eq, MsgId, id_eq, id_eq-same, times, View, Told, Pair, without_front, first_of, at_machine, at_pair, eq_is, parts, receiver_of, pid_eq-same, none_some}
 use Rattle.dm_rulelaws.specs.Sizes.{for_it, count_for}
 use Rattle.dm_line.specs.Each.{sum_below}
 
@@ -89,7 +89,7 @@ drop_none v p zero = refl
 drop_none v p (suc k) = refl
 
 pub drop_one : (v : View) (p : Pid) (xs : List MsgId) (k : ℕ) (i : MsgId) → slice_get xs k ≡ Some i → count_for v p (drop k xs) ≡ for_it v p i + count_for v p (drop (suc k) xs)
-drop_one v p [] k i e = cc
+drop_one v p [] k i e = none_some i e
 drop_one v p (x ∷ xs) zero i e = let f : x ≡ i = cc in ap (λ (j : MsgId). for_it v p j + count_for v p xs) f
 drop_one v p (x ∷ xs) (suc k) i e = drop_one v p xs k i e
 

@@ -1,9 +1,9 @@
 -- A kernel's own message keeps what is known of the size of a server.
-use Rattle.dm_rulelaws.proofs.Names.{◌≡◌, ℕ, ◌+◌, ◌≤◌, ◌==◌, ◌&&◌, not, Bool, true, false, List, [], ◌∷◌, ◌++◌, length, map, refl, ap, ◌∙◌, sym, subst, inl, inr, arith, nat_tests, if◌then◌else◌, Option, None, Some, cases_Bool, false≢true}
+use Rattle.dm_rulelaws.proofs.Names.{◌≡◌, ℕ, ◌+◌, ◌≤◌, ◌==◌, ◌&&◌, not, Bool, true, false, List, [], ◌∷◌, ◌++◌, length, map, refl, ap, ◌∙◌, sym, subst, inl, inr, arith, if◌then◌else◌, Option, None, Some, cases_Bool, false≢true}
 use Rattle.dm_rulelaws.proofs.Names.{Pid, pid_eq, pid_eq-is, pid_eq-same, MsgId, MessageKind, Line, Stage, Boot, OneKernel, View, Told, About, Of, Known, Here, Frozen, Incoming, Forward, Unknown, Sort, sort_of, Point, moved, Part, Says}
 use Rattle.dm_rulelaws.proofs.Names.{Size, size_of, MoveNote, Outcome, answers_move, tells_asker, to_kernel, sends_on, updates, manager, forwards_on, by_forwards, left_parts, is_between, pulls_piece, receiver_in, Moves, InPhases, due, about_same}
 use Rattle.dm_rulelaws.proofs.Names.{source_holds, destination_expects, coming_is, knows, is_early, front_of, target_of, leaves_for, told_here, told_ended, process_told, kernel_hears, bind, bind-is, preds_of}
-use Rattle.dm_rulelaws.proofs.Names.{IsIn, is_restart, kernel_after, label_of, view_after, after_proto, handled, seen_none, buried, leaves, TurnsBack}
+use Rattle.dm_rulelaws.proofs.Names.{IsIn, is_restart, kernel_after, label_of, view_after, after_proto, handled, seen_none, buried, leaves, TurnsBack, none_some}
 use Rattle.dm_message.specs.Sorts.{Passage, brings_piece}
 use Rattle.dm_rule.specs.Burying.{tells_end}
 use Rattle.dm_rule.specs.Phases.{has_it}
@@ -70,12 +70,12 @@ here_keeps n p o m i t Sort.Request ps server here e = request (m == target_of (
         let has : t.receiver ≡ p → has_it (o.view.known m p) ≡ true = λ same. ap (λ (r : Pid). has_it (o.view.known m r)) (sym same) ∙ ap has_it here in
         given (PartsKeep n p (turned o m)) (leaves_for t.receiver to) ps (walks_keep n p server (leaves_for t.receiver to) (turned o m) (first_walks p (Says (Line.Migration Stage.Frozen t.receiver)) rest (turned o m) has (λ q. tt, (λ q. tt, tt)))) e
 here_keeps n p o m i t Sort.Notice ps server here e = given (PartsKeep n p (turned o m)) (updates o i t) ps (loose_keep n p (turned o m) server (updates o i t) (λ q. tt, tt)) e
-here_keeps n p o m i t _ ps server here e = cc
+here_keeps n p o m i t _ ps server here e = none_some ps e
 
 ended_keeps : (n : ℕ) (p : Pid) (pt : Point) (i : MsgId) (s : Sort) (ps : List Part) → Server n p → told_ended i s ≡ Some ps → PartsKeep n p pt ps
 ended_keeps n p pt i Sort.Request ps server e = given (PartsKeep n p pt) (Says (Line.NoMove i) ∷ []) ps (loose_keep n p pt server (Says (Line.NoMove i) ∷ []) (λ q. tt, tt)) e
 ended_keeps n p pt i Sort.Notice ps server e = given (PartsKeep n p pt) (Says (Line.Updated i 0) ∷ []) ps (loose_keep n p pt server (Says (Line.Updated i 0) ∷ []) (λ q. tt, tt)) e
-ended_keeps n p pt i _ ps server e = cc
+ended_keeps n p pt i _ ps server e = none_some ps e
 
 held_keeps : (n : ℕ) (p : Pid) (o : Point) (m : ℕ) (i : MsgId) (t : Told) → Server n p → Hears o m i t → PartsKeep n p (turned o m) (Says (Line.Held i) ∷ [])
 held_keeps n p o m i t server h = walks_keep n p server (Says (Line.Held i) ∷ []) (turned o m) (first_walks p (Says (Line.Held i)) [] (turned o m) (h.rest, h.front) tt)
@@ -329,7 +329,7 @@ gives_keep n p o m i t k server h off =
 
 leaves_keep : (n : ℕ) (p : Pid) (pt : Point) (i : MsgId) (ids : List MsgId) (k : Known) (ps : List Part) → Server n p → leaves i p ids k ≡ Some ps → PartsKeep n p pt ps
 leaves_keep n p pt i ids (Frozen to) ps server e = given (PartsKeep n p pt) (left_parts i p ids to) ps (loose_keep n p pt server (left_parts i p ids to) (left_loose p p i ids to)) e
-leaves_keep n p pt i ids _ ps server e = cc
+leaves_keep n p pt i ids _ ps server e = none_some ps e
 
 -- step by step
 chunk_keeps : (n : ℕ) (p : Pid) (o : Point) (m : ℕ) (i : MsgId) (t : Told) (x : Size) (c : Bool) → Server n p → Hears o m i t → o.view.known m p ≡ Incoming i.from.home → size_of o.kernel p ≡ Some x → (o.view.asked p == moving.chunks_of x) ≡ c → PartsKeep n p (turned o m) (moving.takes_chunk i p c)
@@ -365,7 +365,7 @@ step_keeps n p o m i t room x MessageKind.Memory ps server h about kind sized fr
 step_keeps n p o m i t room x MessageKind.AllTaken ps server h about kind sized fresh e = leaves_keep n p (turned o m) i (o.view.queue m p ++ o.view.held m p) (o.view.known m p) ps server e
 step_keeps n p o m i t room x MessageKind.Restart ps server h about kind sized fresh e =
     given (PartsKeep n p (turned o m)) (Says (Line.Migration Stage.Restarted p) ∷ tells_asker (o.kernel.notes p) Outcome.Done) ps (restarts_here n p o m i t server h (now p o m i t MessageKind.Restart h about kind refl refl fresh)) e
-step_keeps n p o m i t room x _ ps server h about kind sized fresh e = cc
+step_keeps n p o m i t room x _ ps server h about kind sized fresh e = none_some ps e
 
 own_keeps : (n : ℕ) (p : Pid) (b : Boot) (o : Point) (m : ℕ) (i : MsgId) (t : Told) (over stale : Bool) (ps : List Part) → Server n p → Hears o m i t → t.about ≡ Of p → rule.is_stale o m i t.kind p ≡ stale
     → (if over then Some (buried o m i p) else if stale then Some (Says (Line.Stale i) ∷ []) else bind (size_of o.kernel p) (λ x. moving.told_step o m i p (rule.fits (rule.free_room b o m) x.blocks) x (sort_of t.kind))) ≡ Some ps → PartsKeep n p (turned o m) ps
@@ -383,7 +383,7 @@ about_keeps n p b o m i t (view.Of q) ps server h about e = elim (cases_Bool (pi
   | inr off ↦ by_kernel (PartsKeep n p (turned o m)) b o m i t.kind (Of q) ps (λ r is kind. loose_keep n p (turned o m) server (buried o m i r) (buried_loose p r o m i)) (λ r is late. loose_keep n p (turned o m) server (Says (Line.Stale i) ∷ []) (λ z. tt, tt))
       (λ r x is sized fresh. (let f : q ≡ r = about_same q r is in other_keeps n p r o m i t server h (about ∙ is) (sym (ap (λ (k : Pid). pid_eq k p) f) ∙ off))) e
 ]
-about_keeps n p b o m i t _ ps server h about e = cc
+about_keeps n p b o m i t _ ps server h about e = none_some ps e
 
 receiver_keeps : (n : ℕ) (p : Pid) (b : Boot) (o : Point) (m : ℕ) (i : MsgId) (t : Told) (c : Bool) (ps : List Part) → Server n p → Hears o m i t → (if c then kernel_hears b o m i t.kind t.about else process_told o m i t (o.view.known m t.receiver)) ≡ Some ps → PartsKeep n p (turned o m) ps
 receiver_keeps n p b o m i t true ps server h e = about_keeps n p b o m i t t.about ps server h refl e

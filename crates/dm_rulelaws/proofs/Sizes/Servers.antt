@@ -1,5 +1,5 @@
 -- How large a server becomes by a message, and how large it is as a run begins.
-use Rattle.dm_rulelaws.proofs.Names.{◌≡◌, ◌⊎◌, ℕ, zero, suc, ◌+◌, ◌*◌, ◌≤◌, ◌<◌, ◌==◌, ◌||◌, Bool, true, false, List, [], ◌∷◌, ◌++◌, length, refl, ap, ◌∙◌, sym, subst, inl, inr, arith, nat_tests, nat_le, if◌then◌else◌, slice_get, Option}
+use Rattle.dm_rulelaws.proofs.Names.{◌≡◌, ◌⊎◌, ℕ, zero, suc, ◌+◌, ◌*◌, ◌≤◌, ◌<◌, ◌==◌, ◌||◌, Bool, true, false, List, [], ◌∷◌, ◌++◌, length, refl, ap, ◌∙◌, sym, subst, inl, inr, arith, nat_tests, nat_le, if◌then◌else◌, slice_get, Option, none_some}
 use Rattle.dm_rulelaws.proofs.Names.{None, Some, cases_Bool, false≢true, option_map_or, bind, bind-is, Pid, pid_eq, pid_eq-is, pid_eq-same, PlainLink, MsgId, Label, PlainMessage, PlainWhat, NamedLink, Pending, PendingKind, Manager, Switchboard, OneKernel}
 use Rattle.dm_rulelaws.proofs.Names.{with_sent, without_message, switchboard, manager, is_server, by_step, Boot, BootProcess, IsValid, starting_at, processes_are_valid, start, names_size, requests_size, board_size, manager_size, length-append, length-map, code_of_outcome, pid_of}
 use Rattle.dm_onekernel.specs.Boot.{is_general, machines_are_valid}
@@ -125,7 +125,7 @@ board_grows : (b : Switchboard) (m : PlainMessage) (w : PlainWhat) (k : board.Bo
 board_grows b m (PlainWhat.User code channel body links) k e =
     let f : board.takes_request b body links ≡ k = cc in
     subst (λ (x : board.BoardTook). board_size x.switchboard ≤ board_size b + 41) f (request_grows b body links)
-board_grows b m _ k e = cc
+board_grows b m _ k e = none_some k e
 
 -- the manager: one request more, or one child in place of one
 requests-append : (xs ys : List Pending) → requests_size (xs ++ ys) ≡ requests_size xs + requests_size ys
@@ -227,7 +227,7 @@ takes_grows s t id m p false true server one two e =
           let all = ap {B = ℕ} (λ (c : Bool). if c then 41 else 0) (to_it p m.to manager two is.1) in
           omega (arith, now, old, more, all)
     ])
-takes_grows s t id m p false false server one two e = cc
+takes_grows s t id m p false false server one two e = none_some t e
 
 pub took_grows : (s t : OneKernel) (id : MsgId) (p : Pid) → is_server p ≡ true → kernel.step s (Label.Took id) ≡ Some t → Grows s t id p
 took_grows s t id p server is =

@@ -3,7 +3,7 @@ use Rattle.dm_rulelaws.proofs.Names.{◌≡◌, ℕ, ◌≤◌, Bool, true, nat_
 use Rattle.dm_rulelaws.proofs.Names.{Pid, pid_eq, plain_link, BootImage, BootProcess, Boot, Label, IsValid, starting_at, processes_are_valid, process_is_valid, slots_of, PlainProcess, Alive, OneKernel, begun, first_life, life_at, replay}
 use Rattle.dm_rulelaws.proofs.Names.{bind-is, Step, Point, first_point, labels, Leads, Each, ◌+◌, ◌-◌, ◌==◌, false, take, drop, ⊤, MsgId, PlainMessage, PlainWhat, Direction, Row, Reply, Why, PlainStatus, Moving, answer_to, without_message}
 use Rattle.dm_rulelaws.proofs.Names.{by_step, zero, suc, filter_map, nat_lt, slice_set, cons_option, length-take, PlainLink, first_empty, link_at, Waiting, reg, Called, Replies, Sends, Waits, Outputs, Ends, replicate, length-append}
-use Rattle.dm_rulelaws.proofs.Names.{length-replicate, Format, Manager, with_sent, slots_with, running_is, at_hand-is, without_note, answer_id}
+use Rattle.dm_rulelaws.proofs.Names.{length-replicate, Format, Manager, with_sent, slots_with, running_is, at_hand-is, without_note, answer_id, none_some}
 use Rattle.dm_onekernel.specs.Step as kernel
 use Rattle.dm_onekernel.specs.Calls as calls
 use Rattle.dm_onekernel.specs.Pieces as pieces
@@ -33,7 +33,7 @@ request_few b body (l ∷ ls) = search arith
 
 pub board_few : (b : _) (m : PlainMessage) (w : PlainWhat) (k : board.BoardTook) → board.board_takes b m w ≡ Some k → SendsFew k.answer
 board_few b m (PlainWhat.User code channel body links) k e = let f : board.takes_request b body links ≡ k = cc in subst (λ (x : board.BoardTook). SendsFew x.answer) f (request_few b body links)
-board_few b m _ k e = cc
+board_few b m _ k e = none_some k e
 
 -- the manager
 pub took_few : (g : Manager) (machines images : ℕ) (m : PlainMessage) (w : PlainWhat) (k : manage.ManagerTook) → manage.manager_takes g machines images m w ≡ Some k → FewLinks w → SendsFew k.message
@@ -117,7 +117,7 @@ CompletedTables x (receiving.Refuses c y) = SameSlots x y
 
 status_tables : (p : Pid) (x : PlainProcess) (m : PlainMessage) (st : PlainStatus) (d : receiving.Completed) → receiving.completes_status p x m st ≡ Some d → CompletedTables x d
 status_tables p x m (Waiting mask base size) d e = search (arith, m.to, placed_length)
-status_tables p x m _ d e = cc
+status_tables p x m _ d e = none_some d e
 
 -- Each label of a process keeps the number of link slots, and so does what its kernel is asked.
 
@@ -158,15 +158,15 @@ goes_on_by p x z dir owner base own left false same = (same, requests_few p z di
 
 if_lands : (x : PlainProcess) (b : Bool) (k c : pieces.Landed) → LandTables x k → (if b then Some k else None) ≡ Some c → LandTables x c
 if_lands x true k c h e = let f : k ≡ c = cc in subst (LandTables x) f h
-if_lands x false k c h e = cc
+if_lands x false k c h e = none_some c e
 
 lands_if : (p : Pid) (x : PlainProcess) (b : Bool) (dir : Direction) (owner : Pid) (base own left : ℕ) (w : PlainWhat) (c : pieces.Landed) → (if b then pieces.lands_what p x dir owner base own left w else None) ≡ Some c → LandTables x c
 lands_if p x true dir owner base own left w c e = search (arith, if_lands, goes_on_by)
-lands_if p x false dir owner base own left w c e = cc
+lands_if p x false dir owner base own left w c e = none_some c e
 
 lands_by : (p : Pid) (x : PlainProcess) (m : PlainMessage) (st : PlainStatus) (c : pieces.Landed) → pieces.lands p x m st ≡ Some c → LandTables x c
 lands_by p x m (Moving dir owner base own left pending) c e = lands_if p x (m.id.n == pending) dir owner base own left m.what c e
-lands_by p x m _ c e = cc
+lands_by p x m _ c e = none_some c e
 
 gone_few : (w v : PlainWhat) → service.gone_what w ≡ Some v → FewLinks v
 gone_few w v h1 = search arith

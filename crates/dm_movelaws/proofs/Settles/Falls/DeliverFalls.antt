@@ -3,7 +3,7 @@ use Rattle.dm_movelaws.proofs.Names.{◌≡◌, ◌≢◌, ℕ, zero, suc, ◌+�
 use Rattle.dm_movelaws.proofs.Names.{Option, None, Some, eqb_tells, nat_tests, MsgId, Boot, Step, Line, Load, sum_below, at_machine, at_pair, first_undelivered, undelivered, Leads, Part, Says, Transmits, Spelled, packet_line, spelled}
 use Rattle.dm_movelaws.proofs.Names.{pair_window, Point, first_point, moved, arrives, comes, group_of, kept_from, less, let_go, at_least, numbers_from, repeats, taking_parts, takes_on, untaken, Pair, SentLoad, View, gone_after, marked}
 use Rattle.dm_movelaws.proofs.Names.{oldest, taken_id, view_after, seen, OneKernel, IsNet, IsNetLine, arrives_net, group_is, hushed, pairs_stand_always, onward, says_view, taken_pair, transmits_view, IsLess, Packets, left, load_left}
-use Rattle.dm_movelaws.proofs.Names.{one_each, one_let_go, pair_left, weight, weight_of, weight_to, wire_left, less-left}
+use Rattle.dm_movelaws.proofs.Names.{one_each, one_let_go, pair_left, weight, weight_of, weight_to, wire_left, less-left, none_some}
 use Rattle.dm_rule.specs.View as view
 use Rattle.dm_movelaws.proofs.Settles.Falls.Delivers.{parts_ids, set_ids}
 use Rattle.dm_movelaws.proofs.Settles.Effects.{calm_to}
@@ -31,11 +31,11 @@ found_by s ss j k true d e later = let h = later e in record { at = suc h.at; pa
 found_by s ss j k false d e later = let f : j ≡ k = cc in record { at = 0; packet = s; is = omega (arith, f); there = refl; new = d }
 
 found : (ss : List SentLoad) (j k : ℕ) → first_undelivered j ss ≡ Some k → Found ss j k
-found [] j k e = cc
+found [] j k e = none_some k e
 found (s ∷ ss) j k e = found_by s ss j k s.delivered refl e (λ f. found ss (j + 1) k f)
 
 mark_left : (ss : List SentLoad) (k : ℕ) (s : SentLoad) → slice_get ss k ≡ Some s → s.delivered ≡ false → wire_left (slice_set ss k (record s { delivered = true })) + load_left s.load ≡ wire_left ss
-mark_left [] k s e d = cc
+mark_left [] k s e d = none_some s e
 mark_left (t ∷ ss) zero s e d =
     let f : t ≡ s = cc in
     let all : wire_left (t ∷ ss) ≡ load_left s.load + wire_left ss = ap (λ (x : SentLoad). wire_left (x ∷ ss)) f ∙ ap (λ (b : Bool). (if b then 0 else load_left s.load) + wire_left ss) d in

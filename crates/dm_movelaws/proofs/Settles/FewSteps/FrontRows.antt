@@ -4,7 +4,7 @@ use Rattle.dm_movelaws.proofs.Names.{PlainMessage, PlainWhat, Boot, manager, swi
 use Rattle.dm_movelaws.proofs.Names.{place_told, Part, Says, Again, Owns, Point, comes_to, ended_handles, free_room, handles, hears, here_handles, kernel_hears, outcome, process_handles, turns, TellsRight, About, Known, Of, Told}
 use Rattle.dm_rulelaws.proofs.Names.{fits}
 use Rattle.dm_movelaws.proofs.Names.{View, handled, receiver_of, view_after, touches, is_server, is_fixed, is_moving, is_light_kind, says_put, not_is, acting_dropped, or-left, queued_acting, forwarded_acting, sort_of, handles_here}
-use Rattle.dm_movelaws.proofs.Names.{or-right, bind, kernel_handles}
+use Rattle.dm_movelaws.proofs.Names.{or-right, bind, kernel_handles, none_some}
 use Rattle.dm_onekernel.specs.Step as kernel
 use Rattle.dm_rule.specs.View as view
 use Rattle.dm_movelaws.proofs.Settles.Effects.{effect, takes_front}
@@ -133,7 +133,7 @@ told_row pt m i t _ ps known still light num e = absurd (false≢true (sym still
 kernel_none : (b : Boot) (pt : Point) (m : ℕ) (i : MsgId) (a : About) (ps : List Part) → kernel_hears b pt m i MessageKind.Update a ≡ Some ps → ⊥
 kernel_none b pt m i (Of p) ps e =
     let (x, there, is) = bind-is (size_of pt.kernel p) (λ x. told_step pt m i p (fits (free_room b pt m) x.blocks) x (sort_of MessageKind.Update)) ps e in cc
-kernel_none b pt m i a ps e = cc
+kernel_none b pt m i a ps e = none_some ps e
 
 kernel_row : (b : Boot) (pt : Point) (m : ℕ) (i : MsgId) (a : About) (q : Pid) (k : MessageKind) (ps : List Part) → is_light_kind k q ≡ true → (q.num == 0) ≡ true → kernel_hears b pt m i k a ≡ Some ps → ⊥
 kernel_row b pt m i a q MessageKind.User ps light num e = absurd (false≢true (ap (λ (c : Bool). not (c || is_server q)) (sym num) ∙ light))

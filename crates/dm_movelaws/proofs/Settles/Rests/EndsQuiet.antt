@@ -1,6 +1,6 @@
 -- Where all directives are done, the last of them a settle, nothing is on its way.
 use Rattle.dm_movelaws.proofs.Names.{◌≡◌, ◌⊎◌, ℕ, zero, suc, ◌<◌, ◌≤◌, Bool, true, false, List, [], ◌∷◌, ◌++◌, refl, ap, ◌∙◌, sym, subst, inl, inr, arith, if◌then◌else◌, nat_le, Option, None, Some, false≢true, nat_tests, Boot, IsValid}
-use Rattle.dm_movelaws.proofs.Names.{Step, Line, Pass, Next, Todo, Two, all_of, begin_pass, below, in_pass, next_and_left, next_delivery, next_directive, next_pass, next_turn, or, pairs_of, pass_begun, settles}
+use Rattle.dm_movelaws.proofs.Names.{Step, Line, Pass, Next, Todo, Two, all_of, begin_pass, below, in_pass, next_and_left, next_delivery, next_directive, next_pass, next_turn, or, pairs_of, pass_begun, settles, none_some}
 use Rattle.dm_rule.proofs.Names.{Directive}
 use Rattle.dm_line.specs.Todo.{is_over}
 use Rattle.dm_movelaws.proofs.Names.{takes_turn, IsRun, undelivered, Leads, Point, first_point, is_quiet, passes_quiet, based_always, EndsQuiet, ends_settled, is_settle_directive, Seen, at_rest, following, seen_at}
@@ -119,7 +119,7 @@ later_ends machines seen Pass.Settle ds n e h =
     no_directive e = cc
 
 pub unless_is : (over : Bool) (x : Option Next) (n : Next) → (if over then None else x) ≡ Some n → x ≡ Some n
-unless_is true x n e = cc
+unless_is true x n e = none_some n e
 unless_is false x n e = e
 
 next_ends : (machines : ℕ) (seen : Seen) (t : Todo) (n : Next) → following machines seen t ≡ Some n → Ends t → Ends n.left

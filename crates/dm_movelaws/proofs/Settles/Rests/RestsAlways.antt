@@ -1,5 +1,5 @@
 -- Wherever the rule leads, on each pair of machines each has done its part.
-use Rattle.dm_movelaws.proofs.Names.{◌≡◌, ℕ, ◌==◌, false, List, [], ◌∷◌, refl, ap, ◌∙◌, subst, inl, arith, slice_get, Some, nat_tests, Boot, Step, Line, IsStep, Leads, migrates, Says, Spelled, spelled, Point, first_point, moved, arrives}
+use Rattle.dm_movelaws.proofs.Names.{◌≡◌, ◌==◌, false, List, [], ◌∷◌, refl, ap, ◌∙◌, subst, inl, arith, slice_get, Some, nat_tests, Boot, Step, Line, IsStep, Leads, migrates, Says, Spelled, spelled, Point, first_point, moved, arrives}
 use Rattle.dm_movelaws.proofs.Names.{group_of, outstanding_count, resends, first_view, arrives_net, group_is, Pairs, Pairs-group, Pairs-start, AllFit, migrates_fit, resends_fit, turns_fit, PairsRestAlways, acked_out_by, calls_off}
 use Rattle.dm_movelaws.proofs.Names.{calls_off_fit}
 use Rattle.dm_movelaws.proofs.Settles.Rests.RestsComes.{arrives_rest, net_pairs}
