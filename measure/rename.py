@@ -1,5 +1,5 @@
 #!/usr/bin/env python3
-"""rename.py MAP [TOP]: gives definitions new names, in the repository whose top is TOP (default: the folder above this one).
+"""rename.py MAP [TOP]: gives definitions, or crates, new names, in the repository whose top is TOP (default: the folder above this one).
 
 MAP has lines `Rattle.dm_x.specs.Module.old new`, for lemmas `Rattle.dm_x.proofs.Module.old new`; '#' begins a comment. Each is
 renamed where it is declared; in every module that imports it, also by way of one that passes it on, or names it by a module's
@@ -12,7 +12,10 @@ now can. Lists of imports that were sorted stay sorted, and those of .antt files
 Nothing is written where the map can't hold, and each reason is printed: a line that names no declaration, or a new name that
 another declaration has, or that a module or .rt file concerned has for something else, be it a variable. Else it prints which
 names in docs it changed, and which it left there that might mean one of these definitions, for you to look at. Then run
-`rt fmt` in the crates."""
+`rt fmt` in the crates.
+
+A MAP for crates has lines `dm_old dm_new` alone. Each whole word dm_old becomes dm_new in every text of the repository but .git,
+what rt made (out/) and measure/test, whose trees are made up, and its folder moves. Nothing is written where dm_old is no crate, or where dm_new stands anywhere."""
 import collections, glob, os, re, sys
 sys.dont_write_bytecode = True
 sys.path.insert(0, os.path.dirname(os.path.abspath(__file__)))
@@ -654,12 +657,68 @@ class Renamer:
         print(f"{len(self.new)} definitions and lemmas renamed, in {len(changed)} files")
 
 
+class CrateRenamer:
+    """New names for crates: words and folders alone, since no name of a crate means anything else."""
+
+    def __init__(self, top, pairs):
+        self.top, self.pairs = top, pairs
+        listed = open(f"{top}/crates.txt", encoding="utf-8").read()
+        self.crates = {m[1] for m in re.finditer(r"^(\w+)[ \w]*:", listed, re.M)}
+        self.word = re.compile(r"\b(?:" + "|".join(map(re.escape, [w for pair in pairs for w in pair])) + r")\b")
+
+    def files(self):
+        for at, folders, names in os.walk(self.top):
+            folders[:] = [f for f in folders if f not in (".git", "out", "__pycache__")]
+            for name in names:
+                file = os.path.join(at, name)
+                if not os.path.islink(file) and os.path.relpath(file, self.top) != "measure/test":
+                    yield file
+
+    def texts(self):
+        for file in self.files():
+            try:
+                text = open(file, encoding="utf-8", newline="").read()
+            except UnicodeDecodeError:
+                continue
+            if self.word.search(text):
+                yield file, text
+
+    def run(self, map_file):
+        texts = {file: text for file, text in self.texts() if os.path.abspath(file) != os.path.abspath(map_file)}
+        new, faults = dict(self.pairs), []
+        if len(new) != len(self.pairs) or len(set(new.values())) != len(self.pairs):
+            faults.append("the map: a name stands there twice")
+        faults += [f"the map: {old} isn't a crate" for old in new if old not in self.crates]
+        for file, text in texts.items():
+            taken = sorted({w for w in self.word.findall(text) if w not in new})
+            faults += [f"{os.path.relpath(file, self.top)}: {w} stands there" for w in taken]
+        if faults:
+            sys.exit("\n".join(faults))
+        for file, text in texts.items():
+            open(file, "w", encoding="utf-8", newline="").write(self.word.sub(lambda m: new[m[0]], text))
+        for old in new:
+            os.rename(f"{self.top}/crates/{old}", f"{self.top}/crates/{new[old]}")
+        print(f"{len(new)} crates renamed, in {len(texts)} files")
+
+
+def crates_of(map_file):
+    """The pairs of a map for crates, None where it is one for definitions."""
+    lines = [line.split("#")[0].split() for line in open(map_file, encoding="utf-8")]
+    lines = [words for words in lines if words]
+    return lines if lines and all(len(words) == 2 and "." not in words[0] for words in lines) else None
+
+
 def main():
     words = sys.argv[1:]
     if not 1 <= len(words) <= 2 or words[0].startswith("-"):
         sys.exit(__doc__)
     top = words[1] if len(words) > 1 else os.path.join(os.path.dirname(os.path.abspath(__file__)), "..")
-    Renamer(os.path.normpath(top), words[0]).run()
+    top = os.path.normpath(top)
+    pairs = crates_of(words[0])
+    if pairs:
+        CrateRenamer(top, pairs).run(words[0])
+    else:
+        Renamer(top, words[0]).run()
 
 
 if __name__ == "__main__":

@@ -5,7 +5,7 @@ use Rattle.dm_draw.proofs.Within.{boot_machines, directive_fits, directives_fit}
 use Rattle.dm_draw.specs.Directives.{directive_drawn}
 use Rattle.dm_words.proofs.Ranges.{Fits}
 use Rattle.dm_commands.proofs.Carrying.{CarriesTerms, carried}
-use Rattle.dm_runlaws.proofs.Choices.ByRule.Answered.{answered}
+use Rattle.dm_law_runs.proofs.Choices.ByRule.Answered.{answered}
 use Rattle.dm_commands.proofs.Exploring.{asked_for}
 use Rattle.dm_commands.specs.Explores.{bounds_for, question_for}
 use Rattle.dm_commands.proofs.Drills.{all_for}

@@ -12,7 +12,7 @@ use Rattle.dm_drill.specs.declared.report.Report.{Report}
 use Rattle.dm_drill.specs.declared.report.Report.TheVariants as report
 use Rattle.dm_check.specs.Faults.{number_of_trace_fault}
 use Rattle.dm_check.specs.Judge.{Refused}
-use Rattle.dm_runlaws.specs.Traces.Verdict.{verdict}
+use Rattle.dm_law_runs.specs.Traces.Verdict.{verdict}
 use Rattle.dm_check.specs.declared.fault.TraceFault.{TraceFault}
 use Rattle.dm_commands.proofs.CheckOutcomes as checking
 use Rattle.dm_commands.proofs.Outcomes.{Files, only_want, same_boot, same_inputs, some_one}

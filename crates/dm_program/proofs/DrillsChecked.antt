@@ -12,14 +12,14 @@ unfoldable use Rattle.dm_draw.specs.Directives.{directive_drawn}
 use Rattle.dm_line.specs.declared.line.Line.{Line}
 use Rattle.dm_text.specs.Fits.{LineFits}
 use Rattle.dm_text.specs.Text.{text_of_lines}
-use Rattle.dm_rule.specs.Point.{Point}
+use Rattle.dm_law_rule.specs.Point.{Point}
 use Rattle.dm_line.specs.Todo.{Todo}
-use Rattle.dm_mirror.specs.Run.{IsGood, joined}
-use Rattle.dm_mirror.specs.Todo.{IsDirective}
+use Rattle.dm_law_mirror.specs.Run.{IsGood, joined}
+use Rattle.dm_law_mirror.specs.Todo.{IsDirective}
 use Rattle.dm_check.specs.Judge.{Open}
-use Rattle.dm_runlaws.proofs.Traces.Runs.{beginnings_open}
-use Rattle.dm_runlaws.specs.Traces.Laws.{HasHome}
-use Rattle.dm_runlaws.specs.Traces.Verdict.{verdict}
+use Rattle.dm_law_runs.proofs.Traces.Runs.{beginnings_open}
+use Rattle.dm_law_runs.specs.Traces.Laws.{HasHome}
+use Rattle.dm_law_runs.specs.Traces.Verdict.{verdict}
 use Rattle.dm_drill.specs.Counts.{totals_of}
 use Rattle.dm_drill.specs.Drilled.{DrillIsWhole, text_shown}
 use Rattle.dm_drill.specs.Summary.{summary}

@@ -8,9 +8,9 @@ use Rattle.dm_onekernel.specs.Step.{replay}
 use Rattle.dm_line.specs.declared.end_line.EndLine.{EndLine}
 use Rattle.dm_line.specs.declared.line.Line.{Line}
 use Rattle.dm_line.specs.declared.line.Line.TheVariants as line
-use Rattle.dm_rule.specs.Ends.{end_lines}
-use Rattle.dm_rule.specs.Point.{labels}
-use Rattle.dm_mirror.specs.Run.{joined}
+use Rattle.dm_law_rule.specs.Ends.{end_lines}
+use Rattle.dm_law_rule.specs.Point.{labels}
+use Rattle.dm_law_mirror.specs.Run.{joined}
 use Rattle.dm_text.specs.Fits.{EndFits, LineFits}
 use Rattle.dm_text.specs.Text.{text_of_ends, text_of_lines}
 use Rattle.dm_labels.proofs.Printing.{printed_are_good}

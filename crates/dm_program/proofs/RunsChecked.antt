@@ -6,11 +6,11 @@ use Rattle.dm_schedule.specs.declared.Step.{Step}
 use Rattle.dm_schedule.specs.declared.Step.TheVariants as step
 use Rattle.dm_schedule.specs.declared.Directive.TheVariants as directive
 use Rattle.dm_line.specs.declared.line.Line.{Line}
-use Rattle.dm_mirror.specs.Run.{IsGood}
+use Rattle.dm_law_mirror.specs.Run.{IsGood}
 use Rattle.dm_run.specs.Printed.{IsWhole, RunWears}
-use Rattle.dm_runlaws.proofs.Traces.Runs.{beginnings_open, runs_ended}
-use Rattle.dm_runlaws.specs.Traces.Laws.{HasHome, IsHome}
-use Rattle.dm_runlaws.specs.Traces.Verdict.{verdict}
+use Rattle.dm_law_runs.proofs.Traces.Runs.{beginnings_open, runs_ended}
+use Rattle.dm_law_runs.specs.Traces.Laws.{HasHome, IsHome}
+use Rattle.dm_law_runs.specs.Traces.Verdict.{verdict}
 use Rattle.dm_commands.proofs.Schedules as schedules
 use Rattle.dm_commands.specs.Outside.{NeverFails, Outside}
 use Rattle.dm_program.proofs.Runs.Fits.{directives_fit}

@@ -2,10 +2,10 @@
 use Rattle.dm_commands.proofs.Names.{◌≡◌, inl, inr, ℕ, List, length, Boot, Directive}
 use Rattle.dm_line.specs.declared.line.Line.{Line}
 use Rattle.dm_message.specs.declared.MsgId.{MsgId}
-use Rattle.dm_rule.specs.Point.{first_point}
-use Rattle.dm_movelaws.proofs.Open.Moves.{leads_of}
-use Rattle.dm_mirror.proofs.Leading.{good_leads}
-use Rattle.dm_mirror.proofs.Names.{joined, stands_once_always}
+use Rattle.dm_law_rule.specs.Point.{first_point}
+use Rattle.dm_law_moves.proofs.Open.Moves.{leads_of}
+use Rattle.dm_law_mirror.proofs.Leading.{good_leads}
+use Rattle.dm_law_mirror.proofs.Names.{joined, stands_once_always}
 use Rattle.dm_run.specs.Printed.{IsWhole}
 use Rattle.dm_program.proofs.Runs.Fits.{directives_fit}
 use Rattle.dm_program.specs.Printed.{by_rule}

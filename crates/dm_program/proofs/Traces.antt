@@ -1,6 +1,6 @@
 -- What is said of a trace by the machines is so by the rule.
 use Rattle.dm_commands.proofs.Names.{Boot, IsValid}
-use Rattle.dm_runlaws.proofs.Traces.Printed.{due_is, trace_is, verdict_is}
+use Rattle.dm_law_runs.proofs.Traces.Printed.{due_is, trace_is, verdict_is}
 use Rattle.dm_commands.proofs.Carrying.{CarriesTraces}
 use Rattle.dm_commands.specs.Says.{traced_by_world}
 use Rattle.dm_program.specs.Rule.{traced_by_rule}

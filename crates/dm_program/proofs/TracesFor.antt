@@ -4,16 +4,16 @@ use Rattle.std.specs.Prelude.{not}
 use Rattle.dm_program.proofs.Runs.Names.{Step}
 use Rattle.dm_schedule.specs.declared.Step.TheVariants as step
 use Rattle.dm_schedule.specs.declared.Directive.TheVariants as directive
-use Rattle.dm_rule.specs.Laws.{IsStep}
-use Rattle.dm_mirror.specs.Ran.{ones}
-use Rattle.dm_mirror.specs.Todo.{IsDirective}
+use Rattle.dm_law_rule.specs.Laws.{IsStep}
+use Rattle.dm_law_mirror.specs.Ran.{ones}
+use Rattle.dm_law_mirror.specs.Todo.{IsDirective}
 use Rattle.dm_check.specs.Judge.{can_hold}
 use Rattle.dm_program.specs.Laws.{TracesAreFor}
-use Rattle.dm_runlaws.proofs.Traces.Going.{both_first}
-use Rattle.dm_runlaws.proofs.Traces.Going.{both_second}
-use Rattle.dm_runlaws.proofs.Traces.Going.{is_below}
-use Rattle.dm_runlaws.proofs.Traces.Going.{differ}
-use Rattle.dm_runlaws.proofs.Traces.Going.{held_fits}
+use Rattle.dm_law_runs.proofs.Traces.Going.{both_first}
+use Rattle.dm_law_runs.proofs.Traces.Going.{both_second}
+use Rattle.dm_law_runs.proofs.Traces.Going.{is_below}
+use Rattle.dm_law_runs.proofs.Traces.Going.{differ}
+use Rattle.dm_law_runs.proofs.Traces.Going.{held_fits}
 
 all_fit : (n : ℕ) (es : List Step) → All (λ e. can_hold n e ≡ true) es → All (IsDirective n) (ones es)
 all_fit n [] h = All-nil (IsDirective n)

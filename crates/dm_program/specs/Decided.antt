@@ -16,7 +16,7 @@ use Rattle.dm_ending.specs.declared.status.Status.TheVariants.{Done, LabelsRefus
 use Rattle.dm_ending.specs.Status.{IsWant}
 use Rattle.dm_words.specs.Request.{Request, Chart, Check, Count, Drill, Explain, Explore, Judge, OwnDrill, Run, Look, CheckLabels}
 use Rattle.dm_check.specs.Good.{good_verdict}
-use Rattle.dm_runlaws.specs.Traces.Verdict.{verdict}
+use Rattle.dm_law_runs.specs.Traces.Verdict.{verdict}
 use Rattle.dm_commands.specs.Checks.{HasTrace, RefusesTrace, good_line}
 use Rattle.dm_commands.specs.Drills.{directives_of_drill}
 use Rattle.dm_commands.specs.Inputs.{AcceptsFiles, SaysBoot}

@@ -6,7 +6,7 @@ use Rattle.std.specs.declared.option.Option.TheVariants.{Some}
 use Rattle.dm_outside.specs.Outside.{appended}
 use Rattle.dm_line.specs.declared.end_line.EndLine.{EndLine}
 use Rattle.dm_line.specs.declared.line.Line.{Line}
-use Rattle.dm_rule.specs.Point.{labels}
+use Rattle.dm_law_rule.specs.Point.{labels}
 use Rattle.dm_text.specs.Fits.{EndFits, LineFits}
 use Rattle.dm_text.specs.Text.{text_of_ends, text_of_lines}
 use Rattle.dm_labels.specs.Printed.{text_of_labels}

@@ -10,11 +10,11 @@ use Rattle.dm_draw.specs.Boot.{boot_of_machines}
 use Rattle.dm_draw.specs.declared.drill.Drill.{Drill}
 use Rattle.dm_drill.specs.Summary.{summary}
 use Rattle.dm_drill.specs.Totals.{Totals}
-use Rattle.dm_mirror.specs.Ran.{ones}
-use Rattle.dm_mirror.specs.Todo.{IsDirective}
+use Rattle.dm_law_mirror.specs.Ran.{ones}
+use Rattle.dm_law_mirror.specs.Todo.{IsDirective}
 use Rattle.dm_check.specs.Judge.{Open}
-use Rattle.dm_runlaws.specs.Traces.Good.{IsTrace}
-use Rattle.dm_runlaws.specs.Traces.Verdict.{verdict}
+use Rattle.dm_law_runs.specs.Traces.Good.{IsTrace}
+use Rattle.dm_law_runs.specs.Traces.Verdict.{verdict}
 use Rattle.dm_ending.specs.declared.status.Status.{Status}
 use Rattle.dm_ending.specs.declared.status.Status.TheVariants.{Done, Worn}
 use Rattle.dm_words.specs.DrillWords.{IsWithin}

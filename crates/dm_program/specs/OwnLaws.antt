@@ -8,10 +8,10 @@ use Rattle.dm_draw.specs.declared.drill.OwnDrill.{OwnDrill}
 use Rattle.dm_draw.specs.declared.drill.Shows.TheVariants as shows
 use Rattle.dm_drill.specs.Summary.{summary}
 use Rattle.dm_drill.specs.Totals.{Totals}
-use Rattle.dm_mirror.specs.Todo.{IsDirective}
+use Rattle.dm_law_mirror.specs.Todo.{IsDirective}
 use Rattle.dm_onekernel.specs.Boot.{IsValid}
 use Rattle.dm_check.specs.Judge.{Open}
-use Rattle.dm_runlaws.specs.Traces.Verdict.{verdict}
+use Rattle.dm_law_runs.specs.Traces.Verdict.{verdict}
 use Rattle.dm_ending.specs.declared.status.Status.TheVariants.{Done, Worn}
 use Rattle.dm_words.specs.DrillWords.{OwnIsWithin}
 use Rattle.dm_commands.specs.Inputs.{AcceptsFiles, SaysBoot}

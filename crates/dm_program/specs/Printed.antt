@@ -7,18 +7,18 @@ use Rattle.dm_schedule.specs.declared.Directive.{Directive}
 use Rattle.dm_line.specs.declared.end_line.EndLine.{EndLine}
 use Rattle.dm_line.specs.declared.line.Line.{Line}
 use Rattle.dm_line.specs.Todo.{Todo, Next}
-use Rattle.dm_rule.specs.Ends.{end_lines}
-use Rattle.dm_rule.specs.Good.{next_step}
-use Rattle.dm_rule.specs.Point.{Point}
-use Rattle.dm_rule.specs.Quiet.{IsQuiet}
-use Rattle.dm_rule.specs.Rest.{IsAtRest}
-use Rattle.dm_rule.specs.Worn as rule
-use Rattle.dm_movelaws.specs.AtRest.{AllForgotten}
-use Rattle.dm_movelaws.specs.Settles.Passes.{AreGoneThrough, ends_rested, ends_settled, is_at_rest}
-use Rattle.dm_movelaws.specs.Settles.Still.{is_still}
+use Rattle.dm_law_rule.specs.Ends.{end_lines}
+use Rattle.dm_law_rule.specs.Good.{next_step}
+use Rattle.dm_law_rule.specs.Point.{Point}
+use Rattle.dm_law_rule.specs.Quiet.{IsQuiet}
+use Rattle.dm_law_rule.specs.Rest.{IsAtRest}
+use Rattle.dm_law_rule.specs.Worn as rule
+use Rattle.dm_law_moves.specs.AtRest.{AllForgotten}
+use Rattle.dm_law_moves.specs.Settles.Passes.{AreGoneThrough, ends_rested, ends_settled, is_at_rest}
+use Rattle.dm_law_moves.specs.Settles.Still.{is_still}
 use Rattle.dm_world.specs.Meets.{world_state}
-use Rattle.dm_mirror.specs.Run.{IsGood}
-use Rattle.dm_mirror.specs.Stands.{Stands}
+use Rattle.dm_law_mirror.specs.Run.{IsGood}
+use Rattle.dm_law_mirror.specs.Stands.{Stands}
 use Rattle.dm_run.specs.Notion.{Notion}
 
 -- good groups, one for each of the first directives, lead to a directive that would route a message between these two

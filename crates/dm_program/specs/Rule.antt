@@ -1,13 +1,13 @@
 -- What the commands say, by the rule.
 use Rattle.std.specs.Prelude.{◌≡◌}
 use Rattle.std.specs.declared.option.Option.TheVariants.{Some}
-use Rattle.dm_runlaws.specs.Traces.DueStands.{due_by_rule}
-use Rattle.dm_runlaws.specs.Traces.Good.{IsTrace}
-use Rattle.dm_runlaws.specs.Traces.Verdict.{verdict}
+use Rattle.dm_law_runs.specs.Traces.DueStands.{due_by_rule}
+use Rattle.dm_law_runs.specs.Traces.Good.{IsTrace}
+use Rattle.dm_law_runs.specs.Traces.Verdict.{verdict}
 use Rattle.dm_explore.specs.Answers.{answer}
-use Rattle.dm_runlaws.specs.Choices.ByRule.{AnsweredByRule}
+use Rattle.dm_law_runs.specs.Choices.ByRule.{AnsweredByRule}
 use Rattle.dm_look.specs.Looked.{Holding}
-use Rattle.dm_runlaws.specs.Letters.Letters.{HoldsLetters}
+use Rattle.dm_law_runs.specs.Letters.Letters.{HoldsLetters}
 use Rattle.dm_commands.specs.Checks.{TraceMeans}
 use Rattle.dm_commands.specs.Commands.{Terms}
 use Rattle.dm_commands.specs.Explores.{AnswerMeans}

@@ -11,15 +11,15 @@ use Rattle.dm_message.specs.declared.MsgId.{MsgId}
 use Rattle.dm_onekernel.specs.declared.boot.Boot.{Boot}
 use Rattle.dm_onekernel.specs.Start.{start}
 use Rattle.dm_onekernel.specs.Step.{replay}
-use Rattle.dm_laws.specs.Laws.{receptions}
+use Rattle.dm_law_one.specs.Laws.{receptions}
 use Rattle.dm_schedule.specs.declared.Directive.{Directive}
 use Rattle.dm_line.specs.declared.line.Line.{Line}
 use Rattle.dm_line.specs.Todo.{Todo, all_of}
-use Rattle.dm_rule.specs.Ends.{end_lines}
-use Rattle.dm_rule.specs.Good.{IsRun}
-use Rattle.dm_rule.specs.Point.{Point, first_point, labels}
-use Rattle.dm_rule.specs.Spots.{StandsRight, standing}
-use Rattle.dm_mirror.specs.Run.{joined}
+use Rattle.dm_law_rule.specs.Ends.{end_lines}
+use Rattle.dm_law_rule.specs.Good.{IsRun}
+use Rattle.dm_law_rule.specs.Point.{Point, first_point, labels}
+use Rattle.dm_law_rule.specs.Spots.{StandsRight, standing}
+use Rattle.dm_law_mirror.specs.Run.{joined}
 use Rattle.dm_text.specs.Text.{text_of_ends, text_of_lines}
 use Rattle.dm_outside.specs.Outside.{appended}
 use Rattle.dm_ending.specs.declared.status.Status.TheVariants.{Done}

@@ -2,9 +2,9 @@
 use Rattle.dm_program.proofs.Runs.Names.{ℕ, List, [], ◌∷◌, All, All-cons, All-head, All-nil, All-tail, Step, Directive, IsFor, IsDirective}
 use Rattle.dm_schedule.specs.declared.Step.TheVariants as step
 use Rattle.dm_schedule.specs.declared.Directive.TheVariants as directive
-use Rattle.dm_rule.specs.Laws as rule
+use Rattle.dm_law_rule.specs.Laws as rule
 use Rattle.dm_run.specs.Runs as run
-pub use Rattle.dm_runlaws.proofs.Traces.Printed.{step_same as step_fits}
+pub use Rattle.dm_law_runs.proofs.Traces.Printed.{step_same as step_fits}
 
 pub step_is : (n : ℕ) (e : Step) → rule.IsStep n e → run.IsStep n e
 step_is n (step.Turn m) h = h

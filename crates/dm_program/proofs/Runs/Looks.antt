@@ -9,8 +9,8 @@ use Rattle.dm_look.proofs.Carried.{Seen, Sees}
 use Rattle.dm_look.specs.Groups.{IsAt, WearsBefore}
 use Rattle.dm_look.specs.Letters.{Letter}
 use Rattle.dm_look.specs.Looked.{held_by_world}
-use Rattle.dm_runlaws.proofs.Letters.Said.{letters_are_said}
-use Rattle.dm_runlaws.specs.Letters.Letters.{HoldsLetters}
+use Rattle.dm_law_runs.proofs.Letters.Said.{letters_are_said}
+use Rattle.dm_law_runs.specs.Letters.Letters.{HoldsLetters}
 use Rattle.dm_program.specs.Printed.{WearsAfter, by_rule}
 use Rattle.dm_program.specs.Rule.{held_by_rule}
 use Rattle.dm_program.proofs.Runs.Endings.{wears_after}

@@ -20,24 +20,24 @@ unfoldable pub use Rattle.dm_statebytes.specs.Shell.{shell_of_bytes}
 pub use Rattle.dm_migrate.proofs.Names.{All-append, All-cons, Arrival, Err, Ok, Result, Shell, StateBytesError, restarted, revived, revived_from, take_rest}
 pub use Rattle.dm_switchboard.proofs.Imports.{IsLawfulNamed, Named, switchboard}
 pub use Rattle.dm_procman.proofs.Names.{Boot, IsValid, manager}
-pub use Rattle.dm_laws.proofs.Names.{OneKernel, false≢true, first_number, pid_of, ⊤}
+pub use Rattle.dm_law_one.proofs.Names.{OneKernel, false≢true, first_number, pid_of, ⊤}
 pub use Rattle.dm_datamove.proofs.Names.{All-nil}
 pub use Rattle.dm_syscall.proofs.Names.{drop-cons}
-pub use Rattle.dm_rule.proofs.Names.{Directive, IsStep, Leads, Line, Next, Point, Spelled, Step, Todo, View, after, after_line, all_of, bind-is, first_point, group_of, kernel_after, label_of, moved, next_step, seen, view_after}
-pub use Rattle.dm_rule.specs.Worn.{IsWorn}
-pub use Rattle.dm_places.proofs.Names.{Pending}
+pub use Rattle.dm_law_rule.proofs.Names.{Directive, IsStep, Leads, Line, Next, Point, Spelled, Step, Todo, View, after, after_line, all_of, bind-is, first_point, group_of, kernel_after, label_of, moved, next_step, seen, view_after}
+pub use Rattle.dm_law_rule.specs.Worn.{IsWorn}
+pub use Rattle.dm_law_places.proofs.Names.{Pending}
 pub use Rattle.dm_kernel.proofs.Names.{All-head, All-tail, Block, Chunk, Forward, Frozen, Global, Here, Incoming, IsLawfulKnown, IsLawfulState, KernelKnown, Nothing, Vec, Wanted}
-pub use Rattle.dm_rulelaws.proofs.Decided.{shorter_begins}
-pub use Rattle.dm_rulelaws.proofs.Names.{IsRun}
-pub use Rattle.dm_movelaws.proofs.Names.{EndLine, Standing, act_of, block_line, joined_below, home_with, list_line, memory_lines, or, trimmed}
-pub use Rattle.dm_movelaws.proofs.Settles.Falls.TurnsFall.{turns_fall}
-pub use Rattle.dm_movelaws.proofs.Settles.FewSteps.Few.{turns_left_few}
-pub use Rattle.dm_movelaws.proofs.Names.{IsKept, IsSettleStep, Settle, Two, ends_settled, is_at_rest, stands_once_always, sum_below, turns_left}
-pub use Rattle.dm_movelaws.proofs.At.Always.{at_rest_always}
-pub use Rattle.dm_movelaws.proofs.After.{group_after}
-pub use Rattle.dm_movelaws.proofs.Settles.Rests.EndsAtRest.{ends_at_rest}
-pub use Rattle.dm_movelaws.proofs.Settles.Rests.EndsQuiet.{ends_quiet}
-pub use Rattle.dm_movelaws.specs.Settles.Passes.{turns_in}
+pub use Rattle.dm_law_always.proofs.Decided.{shorter_begins}
+pub use Rattle.dm_law_always.proofs.Names.{IsRun}
+pub use Rattle.dm_law_moves.proofs.Names.{EndLine, Standing, act_of, block_line, joined_below, home_with, list_line, memory_lines, or, trimmed}
+pub use Rattle.dm_law_moves.proofs.Settles.Falls.TurnsFall.{turns_fall}
+pub use Rattle.dm_law_moves.proofs.Settles.FewSteps.Few.{turns_left_few}
+pub use Rattle.dm_law_moves.proofs.Names.{IsKept, IsSettleStep, Settle, Two, ends_settled, is_at_rest, stands_once_always, sum_below, turns_left}
+pub use Rattle.dm_law_moves.proofs.At.Always.{at_rest_always}
+pub use Rattle.dm_law_moves.proofs.After.{group_after}
+pub use Rattle.dm_law_moves.proofs.Settles.Rests.EndsAtRest.{ends_at_rest}
+pub use Rattle.dm_law_moves.proofs.Settles.Rests.EndsQuiet.{ends_quiet}
+pub use Rattle.dm_law_moves.specs.Settles.Passes.{turns_in}
 pub use Rattle.dm_text.proofs.Names.{EndFits, LineFits, text}
 pub use Rattle.dm_text.specs.Fits.{HidesNothing}
 unfoldable pub use Rattle.dm_text.specs.Text.{text_of_ends, text_of_lines}
@@ -52,20 +52,20 @@ pub use Rattle.dm_world.specs.declared.cursor.Cursor.TheVariants.{One, Passing}
 pub use Rattle.dm_world.specs.declared.cursor.Place.{Place}
 pub use Rattle.dm_world.specs.declared.cursor.Place.TheVariants.{End, Packets, Turns}
 pub use Rattle.dm_world.specs.declared.world.World.{World}
-pub use Rattle.dm_mirror.proofs.Names.{AreWhole, EndIsSaid, EndMay, GoesOn, IsDirective, NextIsSaid, Ran, RanBegins, RanGoesOn, RunBegins, RunGoesOn, RunIsRan, RunStands, Stands, first_world, full_route, gave, is_full, joined, of_known}
-pub use Rattle.dm_mirror.proofs.Names.{worn_in}
-pub use Rattle.dm_mirror.proofs.Next.{machines_stay, next_fits, undelivered_said}
-pub use Rattle.dm_mirror.proofs.QuietSaid.{mail_is_said}
-pub use Rattle.dm_mirror.proofs.Routing.{worn_alike}
-pub use Rattle.dm_mirror.proofs.Totals.{Grows, grows_on, grows_same, ids_of, put_adds, seen_grows}
-pub use Rattle.dm_mirror.specs.Laws.{RunGoes}
-pub use Rattle.dm_mirror.specs.Ran.{RanGoes}
-pub use Rattle.dm_mirror.proofs.Going.{run_begins}
-pub use Rattle.dm_mirror.proofs.Given.{end_is_said, end_may, ran_goes_on, run_goes_on}
-pub use Rattle.dm_mirror.proofs.Next.{next_is_said}
-pub use Rattle.dm_mirror.proofs.QuietSaid.{quiet_is_said}
-pub use Rattle.dm_mirror.proofs.Single.{ran_begins}
-pub use Rattle.dm_mirror.specs.Run.{IsGood}
+pub use Rattle.dm_law_mirror.proofs.Names.{AreWhole, EndIsSaid, EndMay, GoesOn, IsDirective, NextIsSaid, Ran, RanBegins, RanGoesOn, RunBegins, RunGoesOn, RunIsRan, RunStands, Stands, first_world, full_route, gave, is_full, joined, of_known}
+pub use Rattle.dm_law_mirror.proofs.Names.{worn_in}
+pub use Rattle.dm_law_mirror.proofs.Next.{machines_stay, next_fits, undelivered_said}
+pub use Rattle.dm_law_mirror.proofs.QuietSaid.{mail_is_said}
+pub use Rattle.dm_law_mirror.proofs.Routing.{worn_alike}
+pub use Rattle.dm_law_mirror.proofs.Totals.{Grows, grows_on, grows_same, ids_of, put_adds, seen_grows}
+pub use Rattle.dm_law_mirror.specs.Laws.{RunGoes}
+pub use Rattle.dm_law_mirror.specs.Ran.{RanGoes}
+pub use Rattle.dm_law_mirror.proofs.Going.{run_begins}
+pub use Rattle.dm_law_mirror.proofs.Given.{end_is_said, end_may, ran_goes_on, run_goes_on}
+pub use Rattle.dm_law_mirror.proofs.Next.{next_is_said}
+pub use Rattle.dm_law_mirror.proofs.QuietSaid.{quiet_is_said}
+pub use Rattle.dm_law_mirror.proofs.Single.{ran_begins}
+pub use Rattle.dm_law_mirror.specs.Run.{IsGood}
 pub use Rattle.dm_run.proofs.Carried.{Carried, Carries}
 pub use Rattle.dm_run.proofs.Counted.{counts}
 pub use Rattle.dm_run.proofs.Going.{went}

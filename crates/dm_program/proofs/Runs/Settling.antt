@@ -6,8 +6,8 @@ use Rattle.dm_program.proofs.Runs.Names.{world_step, Stands, machines_stay, next
 use Rattle.dm_schedule.specs.declared.Step.TheVariants as step
 use Rattle.dm_schedule.specs.declared.Directive.TheVariants as directive
 use Rattle.dm_line.specs.declared.pass.Pass.TheVariants.{Rest}
-use Rattle.dm_movelaws.specs.Settles.Left as settle
-use Rattle.dm_rulelaws.proofs.Sizes.Always.{few_machines}
+use Rattle.dm_law_moves.specs.Settles.Left as settle
+use Rattle.dm_law_always.proofs.Sizes.Always.{few_machines}
 
 -- what a settle leaves to turns, by what was printed; of another directive it is never looked at
 abbrev pub turns_ahead : Boot → Cursor → View → ℕ

@@ -1,0 +1,43 @@
+-- The switchboard moves: its last chunk is its last piece, so step 4 and step 5 stand one behind the other, for one message.
+use Rattle.dm_law_rule.proofs.Names.{◌≡◌, List, [], ◌∷◌, refl, Some, pid_of, id_of, MessageKind, Load, Stage, instruction, Boot, One, Step, Line, first_point}
+use Rattle.dm_law_rule.proofs.Worked.{groups}
+
+abbrev two : Boot
+two = record {
+  numbers = 1048576;
+  quantum = 16;
+  format = One;
+  machines = record { slots = 2; blocks = 2 } ∷ record { slots = 2; blocks = 2 } ∷ [];
+  images = record { bytes = 20 ∷ 0 ∷ 0 ∷ 1 ∷ []; blocks = 1 } ∷ [];
+  processes = record { pid = pid_of 0 3; name = []; image = 0; links = [] } ∷ [];
+}
+
+abbrev directives : List Step
+directives =
+    Step.Migrate (pid_of 0 1) 1 ∷ Step.Turn 0 ∷ Step.Deliver 0 1 0 ∷ Step.Turn 1 ∷ Step.Deliver 1 0 0 ∷ Step.Deliver 1 0 1 ∷ Step.Turn 0 ∷ Step.Deliver 0 1 1
+    ∷ Step.Deliver 0 1 2 ∷ Step.Turn 1 ∷ Step.Deliver 1 0 2 ∷ Step.Deliver 1 0 3 ∷ Step.Turn 0 ∷ Step.Deliver 0 1 3 ∷ Step.Deliver 0 1 4 ∷ Step.Turn 1
+    ∷ []
+
+abbrev said : List (List Line)
+said =
+    (Line.Head (Step.Migrate (pid_of 0 1) 1) ∷ Line.Put 0 0 (id_of (pid_of 0 0) 0) MessageKind.Migrate (pid_of 0 1) ∷ [])
+    ∷ (Line.Head (Step.Turn 0) ∷ Line.Migration Stage.Frozen (pid_of 0 1) ∷ Line.Migration Stage.Asked (pid_of 0 1) ∷ Line.Put 0 1 (id_of (pid_of 0 0) 1) MessageKind.Ask (pid_of 1 0) ∷ Line.Packet 0 1 0 (Load.Data 0) ∷ [])
+    ∷ (Line.Head (Step.Deliver 0 1 0) ∷ Line.Taken 0 1 0 ∷ Line.Packet 1 0 0 (Load.Ack 1) ∷ [])
+    ∷ (Line.Head (Step.Turn 1) ∷ Line.Migration Stage.Accepted (pid_of 0 1) ∷ Line.Put 1 0 (id_of (pid_of 1 0) 0) MessageKind.PullState (pid_of 0 0) ∷ Line.Packet 1 0 1 (Load.Data 0) ∷ [])
+    ∷ (Line.Head (Step.Deliver 1 0 0) ∷ Line.Acked 1 0 1 ∷ [])
+    ∷ (Line.Head (Step.Deliver 1 0 1) ∷ Line.Taken 1 0 0 ∷ Line.Packet 0 1 1 (Load.Ack 1) ∷ [])
+    ∷ (Line.Head (Step.Turn 0) ∷ Line.Proto (id_of (pid_of 1 0) 0) ∷ Line.Put 0 1 (id_of (pid_of 0 0) 2) MessageKind.State (pid_of 1 0) ∷ Line.Packet 0 1 2 (Load.Data 1) ∷ [])
+    ∷ (Line.Head (Step.Deliver 0 1 1) ∷ Line.Acked 0 1 1 ∷ [])
+    ∷ (Line.Head (Step.Deliver 0 1 2) ∷ Line.Taken 0 1 1 ∷ Line.Packet 1 0 2 (Load.Ack 2) ∷ [])
+    ∷ (Line.Head (Step.Turn 1) ∷ Line.Migration Stage.StateTaken (pid_of 0 1) ∷ Line.Migration Stage.MemoryTaken (pid_of 0 1) ∷ Line.Put 1 0 (id_of (pid_of 1 0) 1) MessageKind.AllTaken (pid_of 0 0) ∷ Line.Packet 1 0 3 (Load.Data 1) ∷ [])
+    ∷ (Line.Head (Step.Deliver 1 0 2) ∷ Line.Acked 1 0 2 ∷ [])
+    ∷ (Line.Head (Step.Deliver 1 0 3) ∷ Line.Taken 1 0 1 ∷ Line.Packet 0 1 3 (Load.Ack 2) ∷ [])
+    ∷ (Line.Head (Step.Turn 0) ∷ Line.SentOn (pid_of 0 1) 0 ∷ Line.Migration Stage.Left (pid_of 0 1) ∷ Line.Put 0 1 (id_of (pid_of 0 0) 3) MessageKind.Restart (pid_of 1 0) ∷ Line.Packet 0 1 4 (Load.Data 2) ∷ [])
+    ∷ (Line.Head (Step.Deliver 0 1 3) ∷ Line.Acked 0 1 2 ∷ [])
+    ∷ (Line.Head (Step.Deliver 0 1 4) ∷ Line.Taken 0 1 2 ∷ Line.Packet 1 0 4 (Load.Ack 3) ∷ [])
+    ∷ (Line.Head (Step.Turn 1) ∷ Line.Migration Stage.Restarted (pid_of 0 1) ∷ [])
+    ∷ []
+
+pub board_moves : groups two (first_point two) directives ≡ Some said
+unfolding instruction
+board_moves = refl

@@ -1,5 +1,0 @@
-use Rattle.dm_laws.proofs.Runs.{counts_only_rise}
-use Rattle.dm_laws.proofs.laws.counts_only_rise.Goals as goal
-
-pub returns : goal.returns
-returns c = counts_only_rise

@@ -1,5 +1,0 @@
-use Rattle.dm_laws.proofs.Runs.{mover_has_one}
-use Rattle.dm_laws.proofs.laws.mover_has_one.Goals as goal
-
-pub returns : goal.returns
-returns c = mover_has_one

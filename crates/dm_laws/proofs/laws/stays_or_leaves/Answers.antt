@@ -1,5 +1,0 @@
-use Rattle.dm_laws.proofs.Runs.{stays_or_leaves}
-use Rattle.dm_laws.proofs.laws.stays_or_leaves.Goals as goal
-
-pub returns : goal.returns
-returns c = stays_or_leaves

@@ -1,6 +1,0 @@
-use Rattle.dm_mirror.proofs.Staying.{kernel_stays}
-use Rattle.dm_mirror.proofs.Local.{acts_locally}
-use Rattle.dm_mirror.proofs.laws.acts_locally.Goals as goal
-
-pub returns : goal.returns
-returns c = acts_locally kernel_stays

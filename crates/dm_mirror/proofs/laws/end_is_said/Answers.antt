@@ -1,5 +1,0 @@
-use Rattle.dm_mirror.proofs.Given.{end_is_said}
-use Rattle.dm_mirror.proofs.laws.end_is_said.Goals as goal
-
-pub returns : goal.returns
-returns c = end_is_said

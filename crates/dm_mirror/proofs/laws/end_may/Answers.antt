@@ -1,5 +1,0 @@
-use Rattle.dm_mirror.proofs.Given.{end_may}
-use Rattle.dm_mirror.proofs.laws.end_may.Goals as goal
-
-pub returns : goal.returns
-returns c = end_may

@@ -1,5 +1,0 @@
-use Rattle.dm_mirror.proofs.Next.{next_is_said}
-use Rattle.dm_mirror.proofs.laws.next_is_said.Goals as goal
-
-pub returns : goal.returns
-returns c = next_is_said

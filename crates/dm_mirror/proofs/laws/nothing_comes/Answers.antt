@@ -1,5 +1,0 @@
-use Rattle.dm_mirror.proofs.Local.{nothing_comes}
-use Rattle.dm_mirror.proofs.laws.nothing_comes.Goals as goal
-
-pub returns : goal.returns
-returns c = nothing_comes

@@ -1,5 +1,0 @@
-use Rattle.dm_mirror.proofs.Given.{places_follow}
-use Rattle.dm_mirror.proofs.laws.places_follow.Goals as goal
-
-pub returns : goal.returns
-returns c = places_follow

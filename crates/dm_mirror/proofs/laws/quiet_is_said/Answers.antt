@@ -1,5 +1,0 @@
-use Rattle.dm_mirror.proofs.QuietSaid.{quiet_is_said}
-use Rattle.dm_mirror.proofs.laws.quiet_is_said.Goals as goal
-
-pub returns : goal.returns
-returns c = quiet_is_said

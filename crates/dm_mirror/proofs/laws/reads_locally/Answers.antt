@@ -1,6 +1,0 @@
-use Rattle.dm_mirror.proofs.Staying.{kernel_stays}
-use Rattle.dm_mirror.proofs.Local.{reads_locally}
-use Rattle.dm_mirror.proofs.laws.reads_locally.Goals as goal
-
-pub returns : goal.returns
-returns c = reads_locally kernel_stays

@@ -1,5 +1,0 @@
-use Rattle.dm_mirror.proofs.Next.{rest_is_said}
-use Rattle.dm_mirror.proofs.laws.rest_is_said.Goals as goal
-
-pub returns : goal.returns
-returns c = rest_is_said

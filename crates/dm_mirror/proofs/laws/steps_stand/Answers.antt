@@ -1,5 +1,0 @@
-use Rattle.dm_mirror.proofs.Given.{steps_stand}
-use Rattle.dm_mirror.proofs.laws.steps_stand.Goals as goal
-
-pub returns : goal.returns
-returns c = steps_stand

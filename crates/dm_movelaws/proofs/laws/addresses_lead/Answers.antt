@@ -1,5 +1,0 @@
-use Rattle.dm_movelaws.proofs.Trail.Standing.{addresses_lead}
-use Rattle.dm_movelaws.proofs.laws.addresses_lead.Goals as goal
-
-pub returns : goal.returns
-returns c = addresses_lead

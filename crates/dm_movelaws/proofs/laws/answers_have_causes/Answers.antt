@@ -1,5 +1,0 @@
-use Rattle.dm_movelaws.proofs.Asked.Causes.{answers_have_causes}
-use Rattle.dm_movelaws.proofs.laws.answers_have_causes.Goals as goal
-
-pub returns : goal.returns
-returns c = answers_have_causes

@@ -1,5 +1,0 @@
-use Rattle.dm_movelaws.proofs.Asked.Following.{follows_while_moving}
-use Rattle.dm_movelaws.proofs.laws.follows_while_moving.Goals as goal
-
-pub returns : goal.returns
-returns c = follows_while_moving

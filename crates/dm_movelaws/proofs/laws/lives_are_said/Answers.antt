@@ -1,5 +1,0 @@
-use Rattle.dm_movelaws.proofs.LifeLines.{lives_are_said}
-use Rattle.dm_movelaws.proofs.laws.lives_are_said.Goals as goal
-
-pub returns : goal.returns
-returns c = lives_are_said

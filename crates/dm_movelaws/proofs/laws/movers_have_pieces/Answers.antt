@@ -1,5 +1,0 @@
-use Rattle.dm_movelaws.proofs.Movers.Always.{movers_have_pieces}
-use Rattle.dm_movelaws.proofs.laws.movers_have_pieces.Goals as goal
-
-pub returns : goal.returns
-returns c = movers_have_pieces

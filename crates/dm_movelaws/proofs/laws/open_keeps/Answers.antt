@@ -1,5 +1,0 @@
-use Rattle.dm_movelaws.proofs.Open.Stays.{open_keeps}
-use Rattle.dm_movelaws.proofs.laws.open_keeps.Goals as goal
-
-pub returns : goal.returns
-returns c = open_keeps

@@ -1,5 +1,0 @@
-use Rattle.dm_movelaws.proofs.Open.Stays.{open_stays}
-use Rattle.dm_movelaws.proofs.laws.open_stays.Goals as goal
-
-pub returns : goal.returns
-returns c = open_stays

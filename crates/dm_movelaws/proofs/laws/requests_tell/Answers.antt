@@ -1,5 +1,0 @@
-use Rattle.dm_movelaws.proofs.Forwards.Told.{requests_tell}
-use Rattle.dm_movelaws.proofs.laws.requests_tell.Goals as goal
-
-pub returns : goal.returns
-returns c = requests_tell

@@ -1,5 +1,0 @@
-use Rattle.dm_movelaws.proofs.Stages.Always.{steps_in_order}
-use Rattle.dm_movelaws.proofs.laws.steps_in_order.Goals as goal
-
-pub returns : goal.returns
-returns c = steps_in_order

@@ -1,5 +1,0 @@
-use Rattle.dm_movelaws.proofs.Updates.Always.{updates_always}
-use Rattle.dm_movelaws.proofs.laws.updates_always.Goals as goal
-
-pub returns : goal.returns
-returns c = updates_always

@@ -1,5 +1,0 @@
-use Rattle.dm_movelaws.proofs.Settles.Rests.EndsAtRest.{ends_at_rest}
-use Rattle.dm_movelaws.proofs.settle.ends_at_rest.Goals as goal
-
-pub returns : goal.returns
-returns c = ends_at_rest

@@ -1,5 +1,0 @@
-use Rattle.dm_movelaws.proofs.Settles.FewSteps.FewPuts.{few_puts}
-use Rattle.dm_movelaws.proofs.settle.few_puts.Goals as goal
-
-pub returns : goal.returns
-returns c = few_puts

@@ -1,5 +1,0 @@
-use Rattle.dm_rule.proofs.Phases.Always.{phases_always}
-use Rattle.dm_rule.proofs.laws.phases_always.Goals as goal
-
-pub returns : goal.returns
-returns c = phases_always

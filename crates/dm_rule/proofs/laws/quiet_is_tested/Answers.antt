@@ -1,5 +1,0 @@
-use Rattle.dm_rule.proofs.QuietTests.{quiet_is_tested}
-use Rattle.dm_rule.proofs.laws.quiet_is_tested.Goals as goal
-
-pub returns : goal.returns
-returns c = quiet_is_tested

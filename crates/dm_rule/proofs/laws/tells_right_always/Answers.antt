@@ -1,5 +1,0 @@
-use Rattle.dm_rule.proofs.Telling.{tells_right_always}
-use Rattle.dm_rule.proofs.laws.tells_right_always.Goals as goal
-
-pub returns : goal.returns
-returns c = tells_right_always

@@ -1,5 +1,0 @@
-use Rattle.dm_rulelaws.proofs.RunsAlways.{receives_in_order}
-use Rattle.dm_rulelaws.proofs.laws.receives_in_order.Goals as goal
-
-pub returns : goal.returns
-returns c = receives_in_order

@@ -1,5 +1,0 @@
--- Idle turns say nothing, by file.
-pub mod Carried
-pub mod Same
-pub mod Turn
-pub use Rattle.dm_runlaws.proofs.Choices.Idle.Turn.{idle_turns_say_nothing}

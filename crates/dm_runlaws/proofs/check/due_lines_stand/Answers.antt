@@ -1,5 +1,0 @@
-use Rattle.dm_runlaws.proofs.Traces.DueLines.{due_lines}
-use Rattle.dm_runlaws.proofs.check.due_lines_stand.Goals as goal
-
-pub returns : goal.returns
-returns c = due_lines

@@ -1,5 +1,0 @@
-use Rattle.dm_runlaws.proofs.Traces.First.{refusals_first}
-use Rattle.dm_runlaws.proofs.check.refusals_are_first.Goals as goal
-
-pub returns : goal.returns
-returns c = refusals_first

@@ -1,5 +1,0 @@
-use Rattle.dm_runlaws.proofs.Traces.Runs.{traces_good}
-use Rattle.dm_runlaws.proofs.check.traces_are_good.Goals as goal
-
-pub returns : goal.returns
-returns c = traces_good

@@ -1,5 +1,0 @@
-use Rattle.dm_runlaws.proofs.Choices.Answering.{answers_are_sound}
-use Rattle.dm_runlaws.proofs.explore.answers_are_sound.Goals as goal
-
-pub returns : goal.returns
-returns c = answers_are_sound

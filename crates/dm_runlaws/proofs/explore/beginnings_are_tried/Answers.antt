@@ -1,5 +1,0 @@
-use Rattle.dm_runlaws.proofs.Choices.Tried.{beginnings_are_tried}
-use Rattle.dm_runlaws.proofs.explore.beginnings_are_tried.Goals as goal
-
-pub returns : goal.returns
-returns c = beginnings_are_tried

@@ -1,5 +1,0 @@
-use Rattle.dm_runlaws.proofs.Choices.Idle.{idle_turns_say_nothing}
-use Rattle.dm_runlaws.proofs.explore.idle_turns_say_nothing.Goals as goal
-
-pub returns : goal.returns
-returns c = idle_turns_say_nothing

@@ -1,5 +1,0 @@
-use Rattle.dm_runlaws.proofs.Choices.ByRule.Answered.{least_by_rule}
-use Rattle.dm_runlaws.proofs.explore.least_by_rule.Goals as goal
-
-pub returns : goal.returns
-returns c = least_by_rule

@@ -1,5 +1,0 @@
-use Rattle.dm_runlaws.proofs.Choices.ByRule.Answered.{none_by_rule}
-use Rattle.dm_runlaws.proofs.explore.none_by_rule.Goals as goal
-
-pub returns : goal.returns
-returns c = none_by_rule

@@ -1,5 +1,0 @@
-use Rattle.dm_runlaws.proofs.Choices.Answering.{none_is_complete}
-use Rattle.dm_runlaws.proofs.explore.none_is_complete.Goals as goal
-
-pub returns : goal.returns
-returns c = none_is_complete

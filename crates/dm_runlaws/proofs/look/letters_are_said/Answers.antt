@@ -1,5 +1,0 @@
-use Rattle.dm_runlaws.proofs.Letters.Said.{letters_are_said}
-use Rattle.dm_runlaws.proofs.look.letters_are_said.Goals as goal
-
-pub returns : goal.returns
-returns c = letters_are_said

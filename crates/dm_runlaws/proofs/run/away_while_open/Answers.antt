@@ -1,5 +1,0 @@
-use Rattle.dm_runlaws.proofs.Away.{away_while_open}
-use Rattle.dm_runlaws.proofs.run.away_while_open.Goals as goal
-
-pub returns : goal.returns
-returns c = away_while_open
