@@ -1,8 +1,9 @@
 //! The shapes of lines.
-ghost use Rattle.std.specs.Prelude.{◌≡◌, [], ◌∷◌, ◌++◌, IfOk, OnOk, false};
+ghost use Rattle.std.specs.Prelude.{◌≡◌, [], ◌∷◌, ◌++◌, ◌<◌, IfOk, IsTrue, OnOk, false, length, slice_index_or, true};
 ghost use Rattle.dm_chart.specs.Ahead.{first_ahead, is_end, is_restart};
 ghost use Rattle.dm_chart.specs.Behind.{kills_of, waits_behind};
 ghost use Rattle.dm_chart.specs.Drawn.{all_drawn, draw_note, unless_over};
+ghost use Rattle.dm_chart.specs.Left.{IsLeft};
 ghost use Rattle.dm_chart.specs.Notes.{note_of};
 ghost use Rattle.dm_chart.specs.Shapes.{bar, comes_at, deliveries, fate_here, group_shapes, letter_shapes, life_shapes, line_shapes, moves_shown, own_shapes, row_or, sending_shapes, shapes_from, wait, wait_if};
 ghost use Rattle.dm_chart.specs.Spots.{first_spot};
@@ -42,13 +43,15 @@ struct Page<'a> {
     after: &'a [Line],
 }
 
-/// Draws all lines.
+/// Draws all lines, by what may be left of those that stand before the first group that is shown.
 pub fn put_lines(
     alloc: Global,
     into: &mut Vec<u8>,
     frame: &Frame,
     lines: &[Line],
+    left: &[bool],
 ) -> Result<(), NoMemory>
+    requires { IsLeft frame.now lines.now left.now }
     ensures { OnOk result (into.new.items ≡ into.old.items ++ all_drawn frame.now (shapes_from frame.now.rows lines.now [] (first_spot frame.now.hidden) lines.now)) }
 {
     let mut spot = first_spot(frame.hidden);
@@ -58,10 +61,39 @@ pub fn put_lines(
             before: &lines[..i],
             after: &lines[i + 1..],
         };
-        put_line(alloc, into, frame, &page, spot, line)?;
+        put_unless(alloc, into, frame, &page, spot, line, is_over(left, i))?;
         spot = next_spot(spot, line);
     }
     Ok(())
+}
+
+/// Whether nothing is left to draw of line i, the first at 0.
+fn is_over(left: &[bool], i: usize) -> bool
+    ensures within { IsTrue result → i < length left.now }
+    ensures over { IsTrue result → slice_index_or left.now i true ≡ false }
+{
+    i < left.len() && !left[i]
+}
+
+/// Draws a line of a page, unless nothing is left to draw of it.
+fn put_unless(
+    alloc: Global,
+    into: &mut Vec<u8>,
+    frame: &Frame,
+    page: &Page,
+    before: Spot,
+    line: &Line,
+    over: bool,
+) -> Result<(), NoMemory>
+    requires { IsTrue over → all_drawn frame.now (line_shapes frame.now.rows page.now.all.now page.now.before.now before line.now page.now.after.now) ≡ [] }
+    ensures { OnOk result (into.new.items ≡ into.old.items ++
+        all_drawn frame.now (line_shapes frame.now.rows page.now.all.now page.now.before.now before line.now page.now.after.now)) }
+{
+    if over {
+        Ok(())
+    } else {
+        put_line(alloc, into, frame, page, before, line)
+    }
 }
 
 /// Draws a line of a page.
