@@ -115,17 +115,17 @@ end_wakes p r e = absurd (cc)
 over_nothing : (n : ℕ) (t : List ℕ) → n ≡ 0 → unless_over n t ≡ []
 over_nothing n t e = ap (λ (k : ℕ). unless_over k t) e
 
-empty_nothing : (n : ℕ) (t : List ℕ) → t ≡ [] → unless_over n t ≡ []
+pub empty_nothing : (n : ℕ) (t : List ℕ) → t ≡ [] → unless_over n t ≡ []
 empty_nothing n t e = ap (λ (u : List ℕ). unless_over n u) e ∙ same (n == 0) []
   where
     same : (b : Bool) (u : List ℕ) → (if b then u else u) ≡ u
     same true u = refl
     same false u = refl
 
-one_nothing : (f : Frame) (x : Shape) → drawn_shape f x ≡ [] → all_drawn f (x ∷ []) ≡ []
+pub one_nothing : (f : Frame) (x : Shape) → drawn_shape f x ≡ [] → all_drawn f (x ∷ []) ≡ []
 one_nothing f x e = ap (λ (t : List ℕ). t ++ []) e
 
-two_nothing : (a b : List ℕ) → a ≡ [] → b ≡ [] → a ++ b ≡ []
+pub two_nothing : (a b : List ℕ) → a ≡ [] → b ≡ [] → a ++ b ≡ []
 two_nothing a b e h = ap (λ (t : List ℕ). t ++ b) e ∙ h
 
 no_lane : (o : Option ℕ) → is_some o ≡ false → o ≡ None
