@@ -43,15 +43,15 @@ impl<F> Model for Opened<F> {
 impl<R: Opens> Model for RealShelf<R> {
     ghost use Rattle.dm_outside.specs.Real.{FilesState};
 
-    ghost Value = { FilesState R.File };
+    ghost Value = { FilesState R R.File };
 
-    ghost view = { λ s. record { opened = s.opened; faults = s.faults } };
+    ghost view = { λ s. record { rt = s.rt; opened = s.opened; faults = s.faults } };
 }
 
 impl<R: Opens> RealShelf<R> {
     /// A shelf with no file open and no faults.
     pub fn new(rt: R) -> Self
-        ensures { result ≡ record { opened = None; faults = 0 } }
+        ensures { result ≡ record { rt = rt; opened = None; faults = 0 } }
     {
         RealShelf {
             rt,
@@ -70,7 +70,9 @@ impl<R: Opens> RealShelf<R> {
     /// Opens a file at its first byte, in place of the one that was open; none is open where that fails.
     #[inline(never)]
     fn open(&mut self, name: &str)
-        ensures { self.new.faults ≡ self.old.faults }
+        ensures opened { IfSome self.new.opened (λ o. R.named self.old.rt name.now o.file) }
+        ensures system { self.new.rt ≡ self.old.rt }
+        ensures faults { self.new.faults ≡ self.old.faults }
     {
         self.opened = open_file(&self.rt, name);
     }
@@ -79,6 +81,7 @@ impl<R: Opens> RealShelf<R> {
     #[inline(never)]
     fn close(&mut self)
         ensures closes { self.new.opened ≡ None }
+        ensures system { self.new.rt ≡ self.old.rt }
         ensures one_more { self.new.faults ≡ counted self.old.faults }
         ensures counts { self.old.faults ≤ self.new.faults }
     {
@@ -110,8 +113,9 @@ impl<R: Opens> Shelf for RealShelf<R> {
         ensures counts { self.old.faults ≤ self.new.faults }
         ensures one_more { OnErr result (self.new.faults ≡ counted self.old.faults) }
         ensures asks { ⊤ }
-        ensures reads { IfOk result (λ n. ReadsReal R.File R.File.remaining self.old.opened self.new.opened name.now from n into.new) }
+        ensures reads { IfOk result (λ n. ReadsReal R.File R.File.remaining (R.named self.old.rt) self.old.opened self.new.opened name.now from n into.new) }
         ensures closes { OnErr result (self.new.opened ≡ None) }
+        ensures system { self.new.rt ≡ self.old.rt }
     {
         if from == 0 {
             self.open(name);
