@@ -35,8 +35,11 @@ const READS: [(&str, u64); 20] = [
 /// How often "./" stands before "first" in the longest name that the system opens: 4,095 bytes.
 const MOST_STEPS: usize = 2_045;
 
-/// More bytes than the lines at the end of sixteen large machines, which are written as one piece: 33 megabytes, and one byte.
-const LARGE: usize = 34_603_009;
+/// So many parts of so many bytes are more than the lines at the end of sixteen large machines, which are written as one piece: 33
+/// megabytes, and a part.
+const PARTS: usize = 33_793;
+
+const PART: usize = 1_024;
 
 /// Reads two files of data/ in turn, those that aren't there, and one by long names.
 pub fn read_files(rt: &HostRuntime) -> Result<()> {
@@ -91,7 +94,8 @@ fn say_named_read<F: Shelf>(rt: &HostRuntime, shelf: &mut F, name: &str) -> io::
 /// Writes a line, and nothing; and a large piece, into memory.
 pub fn write_out(rt: &HostRuntime) -> Result<()> {
     write_both(rt, &mut RealSink::new(io::writer(rt)))?;
-    let piece = ".".repeat(rt.alloc(), LARGE)?;
+    let part = ".".repeat(rt.alloc(), PART)?;
+    let piece = part.as_str().repeat(rt.alloc(), PARTS)?;
     Ok(say_large_write(rt, piece.as_bytes())?)
 }
 
