@@ -16,4 +16,3 @@ pub mod Own
 pub mod Goes
 pub mod Sizes
 pub mod RunsAlways
-pub mod Confined

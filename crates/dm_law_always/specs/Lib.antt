@@ -4,4 +4,3 @@ pub mod Found
 pub mod Order
 pub mod Sizes
 pub mod Laws
-pub mod Confined
