@@ -16,3 +16,4 @@ pub mod Own
 pub mod Goes
 pub mod Sizes
 pub mod RunsAlways
+pub mod Taken
