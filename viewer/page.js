@@ -5,6 +5,7 @@ const EVERY = 256; // a copy of the state is kept at each such group, to go back
 const AROUND = 5; // groups shown before and behind the one that is looked at
 const LARGE = 40; // no list on the page is longer
 
+const MANY = 9; // with more machines they stand closer, so that sixteen are on one screen
 const LONGEST = 95; // of a line that is at fault so much is shown
 
 const trace = parse(text("trace"));
@@ -340,6 +341,7 @@ const LOOKS = ["ready", "waiting", "moving data", "server", "stopped", "leaving"
 function begin() {
     page.kept = [firstState(machineCount(trace.groups, trace.ends, pids), pids)];
     foldAll();
+    byId("machines").classList.toggle("many", page.kept[0].machines.length > MANY);
     byId("slider").max = trace.groups.length;
     byId("slider").addEventListener("input", (event) => go(Number(event.target.value)));
     byId("first").addEventListener("click", () => go(0));
