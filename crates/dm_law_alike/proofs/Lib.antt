@@ -6,3 +6,7 @@ pub mod Taking
 pub mod Steps
 pub mod Again
 pub mod Runs
+pub mod Beside
+pub mod Past
+pub mod Sparing
+pub mod Alone
