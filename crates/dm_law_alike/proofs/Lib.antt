@@ -10,3 +10,5 @@ pub mod Beside
 pub mod Past
 pub mod Sparing
 pub mod Alone
+pub mod Acting
+pub mod Firsts
