@@ -1,20 +1,16 @@
 -- What a process does by itself changes places with all that isn't its own.
-use Rattle.dm_law_one.proofs.Names.{◌≡◌, ℕ, ◌+◌, ◌==◌, ◌&&◌, Bool, true, false, refl, ap, ◌∙◌, sym, subst, nat_lt, arith, nat_tests, if◌then◌else◌, List, [], ◌∷◌, Option, None, Some, cases_Bool, inl, inr, Pid, pid_eq, MsgId, id_eq, id_of, option_map_or, PlainMessage, PlainWhat, Label, Reply, Why, Outcome, IsOwnStep}
-use Rattle.dm_law_one.proofs.Names.{Called, Replies, Sends, Waits, Outputs, Ends, PlainProcess, PlainStatus, Ready, Life, Alive, Ended, MoveNote, OneKernel, with_process, with_sent, with_note, without_note, without_message, bind, when, replay, reception, entry, instruction, manager, switchboard}
+use Rattle.dm_law_one.proofs.Names.{◌≡◌, ℕ, ◌==◌, ◌&&◌, Bool, true, false, refl, ap, ◌∙◌, sym, subst, nat_lt, arith, nat_tests, if◌then◌else◌, Option, None, Some, Pid, pid_eq, MsgId, id_eq, id_of, option_map_or, PlainMessage, Label, Reply, Why, IsOwnStep}
+use Rattle.dm_law_one.proofs.Names.{Replies, Sends, Waits, Outputs, Ends, PlainProcess, Life, Alive, Ended, MoveNote, OneKernel, with_process, with_sent, without_message, bind, when, instruction}
 use Rattle.dm_law_one.proofs.Facts.{none_some}
-use Rattle.dm_law_one.proofs.Equal.{pid_eq-is, pid_eq-same, id_eq-is, id_eq-same}
-use Rattle.dm_law_one.proofs.Counted.{Sent, pending_of}
-use Rattle.dm_law_one.proofs.Runs.{after_step}
-use Rattle.dm_law_one.proofs.Steps.{bind-is, when-is, nexts, Nexts, at_hand-is, runs, Sent-from}
+use Rattle.dm_law_one.proofs.Steps.{bind-is, when-is, nexts, Nexts, runs}
 use Rattle.dm_law_one.proofs.Sound.{Sound, not_counted, not_server, counts_process}
 use Rattle.dm_law_one.proofs.Entered.{counts, is_counted}
 use Rattle.dm_law_rule.proofs.Changes.{Changes, by_step}
 use Rattle.dm_onekernel.specs.Codes.{reply_eq, why_eq}
-use Rattle.dm_onekernel.specs.Service as service
 use Rattle.dm_onekernel.specs.Step as kernel
-use Rattle.dm_law_alike.specs.Acting.{IsAct, AreActs, NoneOwn}
-use Rattle.dm_law_alike.proofs.Beside.{Beside, beside_set, beside_is, IsApart}
-use Rattle.dm_law_alike.proofs.Past.{Going, KernelBeside, step_beside, other_by, swapped}
+use Rattle.dm_law_alike.specs.Acting.{IsAct}
+use Rattle.dm_law_alike.proofs.Beside.{Beside, beside_set, beside_is}
+use Rattle.dm_law_alike.proofs.Past.{Going, step_beside, other_by, swapped}
 
 -- what an act comes to: a life, and maybe a message; and it is an act wherever the process is the same
 pub record Acts (s : OneKernel) (p : Pid) (a : Label) (t : OneKernel) : Type 0 where

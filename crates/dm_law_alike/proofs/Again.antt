@@ -1,5 +1,5 @@
 -- The twin of a twin is a twin.
-use Rattle.dm_law_one.proofs.Names.{◌≡◌, ℕ, ◌+◌, Bool, true, false, refl, ap, ◌∙◌, sym, subst, nat_le, arith, ⊤, List, [], ◌∷◌, Option, None, Some, Pid, MsgId, PlainMessage, option_map, switchboard, manager, bind}
+use Rattle.dm_law_one.proofs.Names.{◌≡◌, ℕ, refl, ap, ◌∙◌, sym, List, [], ◌∷◌, Option, None, Some, Pid, MsgId, PlainMessage, option_map, switchboard, manager, bind}
 use Rattle.dm_law_one.proofs.Names.{Life, Alive, Ended, MoveNote, Pending, OneKernel, PlainProcess, PlainStatus, Ready, Waiting, Moving}
 use Rattle.dm_law_one.proofs.Facts.{none_some}
 use Rattle.dm_law_one.proofs.Steps.{bind-is}

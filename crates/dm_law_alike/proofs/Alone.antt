@@ -1,14 +1,14 @@
 -- What isn't done by a process that nobody can reach leaves it so.
-use Rattle.dm_law_one.proofs.Names.{◌≡◌, ℕ, ◌+◌, ◌-◌, ◌*◌, ◌==◌, ◌&&◌, ◌||◌, Bool, true, false, refl, ap, ◌∙◌, sym, subst, nat_lt, nat_le, arith, nat_tests, ⊤, if◌then◌else◌, List, [], ◌∷◌, ◌++◌, length, slice_get, take, drop, map, Option, None, Some, cases_Bool, false≢true, inl, inr, Pid, pid_of, pid_eq, MsgId, id_of, answer_id, answer_to}
-use Rattle.dm_law_one.proofs.Names.{PlainLink, PlainMessage, PlainWhat, Direction, Reply, Why, Outcome, Label, IsOwnStep, Called, Replies, Sends, Waits, Outputs, Ends, PlainProcess, PlainStatus, Ready, Waiting, Moving, Life, Alive, Ended, MoveNote, Manager, Switchboard, Pending, PendingKind, OneKernel, with_process}
-use Rattle.dm_law_one.proofs.Names.{with_sent, with_note, without_note, without_message, bind, begun, BootImage, first_number, instruction, Row, manager, switchboard, reg, gone_what, code_of_outcome, option_map, option_map_or, first_empty, first_failed, link_at}
-use Rattle.std.specs.Prelude.{zero, suc, slice_set, replicate}
+use Rattle.dm_law_one.proofs.Names.{◌≡◌, ℕ, ◌+◌, ◌-◌, ◌*◌, ◌==◌, ◌&&◌, ◌||◌, Bool, true, false, refl, ap, ◌∙◌, sym, subst, nat_lt, nat_le, arith, nat_tests, ⊤, if◌then◌else◌, List, [], ◌∷◌, ◌++◌, length, slice_get, take, drop, map, Option, None, Some, cases_Bool, false≢true, inl, inr, Pid, pid_of, pid_eq, MsgId, answer_id, answer_to}
+use Rattle.dm_law_one.proofs.Names.{PlainLink, PlainMessage, PlainWhat, Direction, Reply, Why, Outcome, Label, IsOwnStep, Called, Replies, Sends, Waits, Outputs, Ends, PlainProcess, PlainStatus, Ready, Waiting, Moving, Life, Alive, Manager, Switchboard, Pending, PendingKind, OneKernel, with_process}
+use Rattle.dm_law_one.proofs.Names.{with_sent, without_note, without_message, bind, begun, BootImage, first_number, instruction, Row, manager, reg, gone_what, code_of_outcome, option_map_or, first_failed}
+use Rattle.std.specs.Prelude.{zero, suc, replicate}
 use Rattle.dm_law_one.proofs.Facts.{none_some}
-use Rattle.dm_law_one.proofs.Equal.{pid_eq-is, pid_eq-same}
+use Rattle.dm_law_one.proofs.Equal.{pid_eq-is}
 use Rattle.dm_law_one.proofs.Counted.{pending_of, is_of_memory}
 use Rattle.dm_law_one.proofs.Steps.{bind-is, at_hand-is, runs}
 use Rattle.dm_law_one.proofs.Sound.{Sound, not_server}
-use Rattle.dm_law_rule.proofs.Changes.{Changes, by_step, Next, Lives, Over, Mild, Asked, Follows}
+use Rattle.dm_law_rule.proofs.Changes.{Changes, by_step, Lives}
 use Rattle.dm_onekernel.specs.Calls as calls
 use Rattle.dm_onekernel.specs.Manager as manage
 use Rattle.dm_onekernel.specs.Pieces as pieces
@@ -20,13 +20,13 @@ use Rattle.dm_onekernel.specs.Kernel.{NamedLink}
 use Rattle.dm_process.specs.Mail.{on_mask}
 use Rattle.std.specs.Str.{bytes_eq}
 use Rattle.dm_onekernel.specs.Boot.{is_general, slots_of}
-use Rattle.dm_law_always.specs.Fits.{Each, KernelFits, WhatFits, NoteFits, awaits, status_awaits}
+use Rattle.dm_law_always.specs.Fits.{Each, KernelFits, WhatFits, awaits, status_awaits}
 use Rattle.dm_law_always.proofs.Calling.{by_call}
 use Rattle.dm_law_always.proofs.Confined.Calls.{set_each}
 use Rattle.dm_law_always.proofs.Fits.Creates.{fresh_child}
-use Rattle.dm_law_alike.specs.Private.{is_numbered, acts_on, Spared, MaybeSpared, OwnerSpared, MessageSpares, IsSpared}
-use Rattle.dm_law_alike.proofs.Past.{other_by, swapped}
-use Rattle.dm_law_alike.proofs.Sparing.{slot_spared, without_spared, links_spared, placed_spared, own_spared, right_spared, over_spared, spared_out, spared_put, spared_set, spared_end, spared_note, spared_unnote, spared_made, spared_board, spared_manager, spared_child, numbered_more, answers_more}
+use Rattle.dm_law_alike.specs.Private.{is_numbered, Spared, MaybeSpared, OwnerSpared, MessageSpares, IsSpared}
+use Rattle.dm_law_alike.proofs.Past.{other_by}
+use Rattle.dm_law_alike.proofs.Sparing.{slot_spared, without_spared, links_spared, placed_spared, own_spared, right_spared, over_spared, spared_out, spared_put, spared_set, spared_end, spared_note, spared_unnote, spared_made, spared_board, spared_manager, spared_child, answers_more}
 
 -- a process that goes on
 pub record GoesSpared (cs : List Pid) (p : Pid) (y : PlainProcess) : Type 0 where
@@ -339,6 +339,7 @@ control_link_spared cs p child apart server =
     at_end : (cs : List Pid) (p child : Pid) → pid_eq p child ≡ false → option_map_or (λ v. pid_eq p v) (slice_get (cs ++ child ∷ []) (length cs)) false ≡ false
     at_end [] p child e = e
     at_end (x ∷ xs) p child e = at_end xs p child e
+
     numbered_end : (cs : List Pid) (p child : Pid) → pid_eq p child ≡ false → is_numbered (cs ++ child ∷ []) (length cs + 1) p ≡ false
     numbered_end cs p child e = let n : length cs + 1 ≡ suc (length cs) = omega arith in ap (λ k. is_numbered (cs ++ child ∷ []) k p) n ∙ at_end cs p child e
 

@@ -1,7 +1,7 @@
 -- Two kernels that differ in one process and in one message of that process's alone.
-use Rattle.dm_law_one.proofs.Names.{◌≡◌, ℕ, ◌+◌, Bool, true, false, refl, ap, ◌∙◌, sym, subst, inl, inr, arith, nat_tests, if◌then◌else◌, Option, None, Some, fun_ext, cases_Bool, false≢true, Pid, pid_eq, MsgId, id_eq, answer_id, PlainMessage}
+use Rattle.dm_law_one.proofs.Names.{◌≡◌, ℕ, ◌+◌, Bool, true, false, refl, ap, ◌∙◌, sym, inl, inr, arith, nat_tests, if◌then◌else◌, Option, None, Some, fun_ext, cases_Bool, Pid, pid_eq, MsgId, id_eq, PlainMessage}
 use Rattle.dm_law_one.proofs.Names.{Life, MoveNote, OneKernel, Manager, Switchboard, with_process, with_sent, with_note, without_note, without_message}
-use Rattle.dm_law_one.proofs.Equal.{id_eq-is, id_eq-same, pid_eq-is}
+use Rattle.dm_law_one.proofs.Equal.{id_eq-is, pid_eq-is}
 
 -- the bag with a message, if there is one
 abbrev pub with_bag : Option PlainMessage → (MsgId → Option PlainMessage) → MsgId → Option PlainMessage

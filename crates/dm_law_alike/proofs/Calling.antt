@@ -1,9 +1,8 @@
 -- What twin processes do next.
-use Rattle.dm_law_one.proofs.Names.{◌≡◌, ℕ, ◌+◌, ◌==◌, Bool, true, false, refl, ap, ◌∙◌, sym, subst, nat_lt, arith, ⊤, if◌then◌else◌, List, Option, None, Some, Pid, MsgId, id_of, option_map, PlainLink, PlainMessage, PlainWhat, Direction, Reply, Why, first_empty, link_at, direction_numbered, reg, instruction, Row}
-use Rattle.dm_law_one.proofs.Names.{PlainProcess, PlainStatus, Ready, Waiting, Moving, Called, Replies, Sends, Waits, Outputs, Ends, CallNumber, Out, Make, Copy, Drop, Send, Receive, Move, call_number, first_failed}
+use Rattle.dm_law_one.proofs.Names.{◌≡◌, ℕ, ◌+◌, ◌==◌, Bool, true, false, refl, ap, sym, subst, if◌then◌else◌, Option, None, Some, Pid, option_map, PlainLink, Direction, Reply, first_empty, link_at, direction_numbered, reg, instruction, Row}
+use Rattle.dm_law_one.proofs.Names.{PlainProcess, PlainStatus, Waiting, Moving, Called, Replies, Sends, Waits, Outputs, Ends, CallNumber, Out, Make, Copy, Drop, Send, Receive, Move, call_number, first_failed}
 use Rattle.dm_onekernel.specs.Calls as calls
 use Rattle.dm_onekernel.specs.Pieces as pieces
-use Rattle.dm_onekernel.specs.Receiving as receiving
 use Rattle.dm_onekernel.specs.Step as kernel
 use Rattle.dm_law_alike.specs.Alike.{Renaming, GoOn, Stands, under, status_by, TwinProcess}
 use Rattle.dm_law_alike.proofs.Numbers.{own_stands, goes_further, goes_here}
@@ -66,22 +65,30 @@ twin_sends r p x st k (Some l) h =
 
 pub twin_requests : (r : Renaming) (p : Pid) (x : PlainProcess) (st : PlainStatus) (k : ℕ) (dir : Direction) (owner : Pid) (base own left : ℕ) → GoOn (r p) x.sent k
     → TwinCalled r p (calls.begins_move (pieces.requests p x dir owner base own left)) (calls.begins_move (pieces.requests p (as_twin x st k) dir owner base own left))
-twin_requests r p x st k Direction.FromArea owner base own left h = (own_stands r p x.sent k h, refl, record {
-  regs = refl;
-  memory = refl;
-  links = refl;
-  status = ap (option_map (λ n. Moving Direction.FromArea owner base own left n)) (goes_here (r p) x.sent k h);
-  stopped = refl;
-  sent = goes_further (r p) x.sent k h;
-})
-twin_requests r p x st k Direction.IntoArea owner base own left h = (own_stands r p x.sent k h, refl, record {
-  regs = refl;
-  memory = refl;
-  links = refl;
-  status = ap (option_map (λ n. Moving Direction.IntoArea owner base own left n)) (goes_here (r p) x.sent k h);
-  stopped = refl;
-  sent = goes_further (r p) x.sent k h;
-})
+twin_requests r p x st k Direction.FromArea owner base own left h = (
+  own_stands r p x.sent k h,
+  refl,
+  record {
+    regs = refl;
+    memory = refl;
+    links = refl;
+    status = ap (option_map (λ n. Moving Direction.FromArea owner base own left n)) (goes_here (r p) x.sent k h);
+    stopped = refl;
+    sent = goes_further (r p) x.sent k h;
+  },
+)
+twin_requests r p x st k Direction.IntoArea owner base own left h = (
+  own_stands r p x.sent k h,
+  refl,
+  record {
+    regs = refl;
+    memory = refl;
+    links = refl;
+    status = ap (option_map (λ n. Moving Direction.IntoArea owner base own left n)) (goes_here (r p) x.sent k h);
+    stopped = refl;
+    sent = goes_further (r p) x.sent k h;
+  },
+)
 
 twin_bytes : (r : Renaming) (p : Pid) (x : PlainProcess) (st : PlainStatus) (k : ℕ) (l : PlainLink) (dir : Direction) → Both (r p) x st k → TwinCalled r p (calls.moves_bytes p x l dir) (calls.moves_bytes p (as_twin x st k) l dir)
 twin_bytes r p x st k l dir h =

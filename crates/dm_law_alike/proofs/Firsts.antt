@@ -1,22 +1,20 @@
 -- What a process does by itself can come first.
-use Rattle.dm_law_one.proofs.Names.{◌≡◌, ℕ, ◌+◌, Bool, true, false, refl, ap, ◌∙◌, sym, subst, arith, nat_tests, if◌then◌else◌, List, [], ◌∷◌, Option, None, Some, cases_Bool, false≢true, inl, inr, Pid, pid_eq, MsgId, id_eq, PlainMessage, PlainWhat, Label, IsOwnStep, Boot, IsValid, start, replay, reception, entry, bind}
-use Rattle.dm_law_one.proofs.Names.{PlainProcess, PlainStatus, Ready, Waiting, Moving, Life, Alive, Ended, OneKernel, with_process, with_sent, serves, follows_request}
+use Rattle.dm_law_one.proofs.Names.{◌≡◌, ℕ, ◌+◌, Bool, true, false, refl, ap, ◌∙◌, sym, subst, if◌then◌else◌, List, [], ◌∷◌, Option, None, Some, cases_Bool, false≢true, inl, inr, Pid, pid_eq, MsgId, id_eq, PlainMessage, PlainWhat, Label, IsOwnStep, start, replay, reception, entry, bind}
+use Rattle.dm_law_one.proofs.Names.{PlainProcess, PlainStatus, Ready, Waiting, Moving, Life, Alive, OneKernel, with_process, with_sent, serves, follows_request}
 use Rattle.dm_law_one.proofs.Facts.{none_some}
-use Rattle.dm_law_one.proofs.Equal.{pid_eq-is, pid_eq-same, id_eq-is}
+use Rattle.dm_law_one.proofs.Equal.{pid_eq-same, id_eq-is}
 use Rattle.dm_law_one.proofs.Counted.{pending_of}
 use Rattle.dm_law_one.proofs.Runs.{after_step, start-sound}
 use Rattle.dm_law_one.proofs.Sound.{Sound, process_at}
 use Rattle.dm_law_one.proofs.Steps.{bind-is, at_hand-is}
 use Rattle.dm_onekernel.specs.Receiving as receiving
-use Rattle.dm_onekernel.specs.Service as service
 use Rattle.dm_onekernel.specs.Step as kernel
 use Rattle.dm_law_always.proofs.Fits.Start.{start_fits}
 use Rattle.dm_law_always.proofs.RunLabels.{replay_fits}
 use Rattle.dm_law_alike.specs.Acting.{IsAct, AreActs, IsAtHand, IsReady, NoneOwn}
-use Rattle.dm_law_alike.specs.Laws.{ActsGoFirst, BothWays, ActsComeFirst, First, SparedStays, StaysSpared, OwnAreActs}
-use Rattle.dm_law_alike.specs.Private.{IsSpared, MessageSpares}
-use Rattle.dm_law_alike.proofs.Beside.{IsApart, with_bag, beside_set}
-use Rattle.dm_law_alike.proofs.Past.{other_by}
+use Rattle.dm_law_alike.specs.Laws.{ActsGoFirst, BothWays, ActsComeFirst, First, SparedStays, OwnAreActs}
+use Rattle.dm_law_alike.specs.Private.{MessageSpares}
+use Rattle.dm_law_alike.proofs.Beside.{with_bag, beside_set}
 use Rattle.dm_law_alike.proofs.Acting.{Acts, act_is, alive_stays, free_stays, diamond, fresh_message, some_is}
 use Rattle.dm_law_alike.proofs.Alone.{step_spares}
 
@@ -137,7 +135,7 @@ come_first (a ∷ as_) ls c e s t u p life sound is free there none leads acts l
     let after = after_step c e s v a here sound in
     let mine = act_is s v p a acts.0 here in
     let more = come_first as_ ls (λ i. c i + reception i a) (λ i. e i + entry i s v) v w u p h.life after.sound (with_sent_processes (with_process s p h.life) h.message p ∙ process_at s p h.life) (with_sent_notes (with_process s p h.life) h.message p ∙ free)
-        (life_behind t w p a h) one.none (one.run ∙ ap Some end) acts.1 rest in
+    (life_behind t w p a h) one.none (one.run ∙ ap Some end) acts.1 rest in
     record { kernel = more.kernel; acting = ap (λ o. bind o (λ (z : OneKernel). replay z as_)) here ∙ more.acting; run = more.run }
 
 pub acts_come_first : ActsComeFirst

@@ -1,6 +1,6 @@
 -- Names that stand for each other.
-use Rattle.dm_law_one.proofs.Names.{◌≡◌, ℕ, ◌+◌, Bool, true, false, refl, ap, ◌∙◌, sym, subst, nat_lt, inl, inr, arith, if◌then◌else◌, Option, None, Some, cases_Bool, false≢true, nat_tests, Pid, pid_eq, MsgId, id_eq, id_of, answer_id, option_map}
-use Rattle.dm_law_one.proofs.Equal.{id_eq-is, id_eq-same, pid_eq-is}
+use Rattle.dm_law_one.proofs.Names.{◌≡◌, ℕ, ◌+◌, Bool, true, false, refl, ap, ◌∙◌, sym, subst, nat_lt, inl, inr, arith, Option, Some, cases_Bool, false≢true, nat_tests, Pid, MsgId, id_eq, id_of, answer_id}
+use Rattle.dm_law_one.proofs.Equal.{id_eq-is, id_eq-same}
 use Rattle.dm_law_alike.specs.Alike.{Renaming, KeepsOrder, GoOn, Stands}
 
 pub some_same : {A : Type 0} (x y : A) → Some x ≡ Some y → x ≡ y
@@ -41,9 +41,9 @@ stands_eq r i j a b h f g = elim (cases_Bool (id_eq i a)) [
       ap (λ v. id_eq v b) jb ∙ id_eq-same b ∙ sym same
   | inr apart ↦
       apart_if (id_eq j b) (λ same.
-        let jb : j ≡ b = id_eq-is j b same in
-        let ia : i ≡ a = stands_for_one r i a b h (subst (λ v. Stands r i v) jb f) g in
-        false≢true (sym apart ∙ ap (λ v. id_eq v a) ia ∙ id_eq-same a)) ∙ sym apart
+      let jb : j ≡ b = id_eq-is j b same in
+      let ia : i ≡ a = stands_for_one r i a b h (subst (λ v. Stands r i v) jb f) g in
+      false≢true (sym apart ∙ ap (λ v. id_eq v a) ia ∙ id_eq-same a)) ∙ sym apart
 ]
 
 -- answers stand for each other as requests do

@@ -1,13 +1,12 @@
 -- A step that isn't a process's own doesn't see what that process does: it is one behind it too.
-use Rattle.dm_law_one.proofs.Names.{◌≡◌, ℕ, ◌+◌, ◌==◌, ◌&&◌, Bool, true, false, refl, ap, ◌∙◌, sym, subst, nat_lt, nat_le, arith, nat_tests, if◌then◌else◌, List, length, slice_get, take, drop, Option, None, Some, cases_Bool, false≢true, inl, inr, Pid, pid_of, pid_eq, MsgId, id_eq, id_of, answer_id, answer_to, option_map_or, PlainLink, PlainMessage, PlainWhat}
-use Rattle.dm_law_one.proofs.Names.{Called, Replies, Sends, Waits, Outputs, Ends, PlainProcess, PlainStatus, Life, Alive, Ended, MoveNote, OneKernel, with_process, with_sent, with_note, without_note, without_message, bind, when, serves, follows_request, gone_what, begun, BootImage, first_number, instruction}
+use Rattle.dm_law_one.proofs.Names.{◌≡◌, ℕ, ◌+◌, ◌==◌, ◌&&◌, Bool, true, false, refl, ap, ◌∙◌, sym, subst, nat_lt, nat_le, arith, nat_tests, if◌then◌else◌, length, slice_get, take, drop, Option, None, Some, cases_Bool, inl, inr, Pid, pid_of, pid_eq, MsgId, id_eq, id_of, answer_id, answer_to, option_map_or, PlainMessage, PlainWhat}
+use Rattle.dm_law_one.proofs.Names.{Replies, Sends, Waits, Outputs, Ends, PlainProcess, Life, Alive, Ended, MoveNote, OneKernel, with_process, with_sent, with_note, without_note, without_message, bind, when, serves, follows_request, gone_what, begun, first_number, instruction}
 use Rattle.dm_law_one.proofs.Names.{Label, Reply, Why, Outcome, manager, switchboard, IsOwnStep}
 use Rattle.dm_law_one.proofs.Facts.{none_some}
-use Rattle.dm_law_one.proofs.Equal.{id_eq-is, id_eq-same, pid_eq-is, pid_eq-same}
-use Rattle.dm_law_one.proofs.Counted.{Sent}
+use Rattle.dm_law_one.proofs.Equal.{id_eq-is, pid_eq-is}
 use Rattle.dm_law_one.proofs.Steps.{bind-is, when-is, nexts, Nexts}
 use Rattle.dm_law_one.proofs.Services.{lands-is, LandsSo}
-use Rattle.dm_law_one.proofs.Servers.{note-is, ServerSends, board_takes_lem, manager_takes_lem}
+use Rattle.dm_law_one.proofs.Servers.{ServerSends, board_takes_lem, manager_takes_lem}
 use Rattle.dm_law_one.proofs.Sound.{Sound, not_server}
 use Rattle.dm_onekernel.specs.Codes.{reply_eq, why_eq}
 use Rattle.dm_onekernel.specs.Manager as manage
@@ -198,8 +197,8 @@ board_beside c e p x life o s t u id m h there is =
     led p life o u (Some (service.switchboard_took t id k)) (bind (board.board_takes t.switchboard m m.what) (λ v. Some (service.switchboard_took t id v)))
     (ap (λ v. bind (board.board_takes v m m.what) (λ w. Some (service.switchboard_took t id w))) h.beside.switchboard ∙ ap (λ v. bind v (λ w. Some (service.switchboard_took t id w))) takes)
     (by_same p life o (service.switchboard_took s id k) u (service.switchboard_took t id k)
-      (sent_beside p life o k.answer (record (without_message s id) { switchboard = k.switchboard }) (record (without_message t id) { switchboard = k.switchboard })
-        (server_off p switchboard x.sent s.switchboard.sent k.switchboard.sent o k.answer h.own server so) (beside_board p life o (without_message s id) (without_message t id) k.switchboard out)) last)
+    (sent_beside p life o k.answer (record (without_message s id) { switchboard = k.switchboard }) (record (without_message t id) { switchboard = k.switchboard })
+    (server_off p switchboard x.sent s.switchboard.sent k.switchboard.sent o k.answer h.own server so) (beside_board p life o (without_message s id) (without_message t id) k.switchboard out)) last)
 
 manager_beside : (c e : MsgId → ℕ) (p : Pid) (x : PlainProcess) (life : Life) (o : Option PlainMessage) (s t u : OneKernel) (id : MsgId) (m : PlainMessage) → Going c e p x life o s t → s.bag id ≡ Some m
     → bind (manage.manager_takes s.manager s.machines (length s.images) m m.what) (λ k. Some (service.manager_took s id k)) ≡ Some u
@@ -212,8 +211,8 @@ manager_beside c e p x life o s t u id m h there is =
     led p life o u (Some (service.manager_took t id k)) (bind (manage.manager_takes t.manager t.machines (length t.images) m m.what) (λ v. Some (service.manager_took t id v)))
     ((λ i. bind (manage.manager_takes (h.beside.manager i) (h.beside.machines i) (length (h.beside.images i)) m m.what) (λ w. Some (service.manager_took t id w))) ∙ ap (λ v. bind v (λ w. Some (service.manager_took t id w))) takes)
     (by_same p life o (service.manager_took s id k) u (service.manager_took t id k)
-      (sent_beside p life o k.message (record (without_message s id) { manager = k.manager }) (record (without_message t id) { manager = k.manager })
-        (server_off p manager x.sent s.manager.sent k.manager.sent o k.message h.own server so.sends) (beside_manager p life o (without_message s id) (without_message t id) k.manager out)) last)
+    (sent_beside p life o k.message (record (without_message s id) { manager = k.manager }) (record (without_message t id) { manager = k.manager })
+    (server_off p manager x.sent s.manager.sent k.manager.sent o k.message h.own server so.sends) (beside_manager p life o (without_message s id) (without_message t id) k.manager out)) last)
 
 takes_beside_if : (p : Pid) (life : Life) (o : Option PlainMessage) (u : OneKernel) (b c : Bool) (x y v w : Option OneKernel) → (x ≡ Some u → KernelBeside p life o u v) → (y ≡ Some u → KernelBeside p life o u w) → (if b then x else if c then y else None) ≡ Some u
     → KernelBeside p life o u (if b then v else if c then w else None)
@@ -236,14 +235,14 @@ creates_beside c e p x life o s t u id m child (PlainWhat.Create image links) h 
     let other : pid_eq p child ≡ false = other_by p child (λ same. none_some (Alive x) (sym fresh ∙ ap s.processes (sym same) ∙ h.alive)) in
     let out = beside_out p life o s t id (there_apart c e p x life o s t id m h there) h.beside in
     let set : Beside p life o (with_process (without_message s id) child (Alive (begun s.format i links))) (with_process (without_message t id) child (Alive (begun t.format i links))) =
-        subst (λ v. Beside p life o (with_process (without_message s id) child (Alive (begun s.format i links))) (with_process (without_message t id) child (Alive (begun v i links)))) (sym h.beside.format)
-        (beside_other p life o (without_message s id) (without_message t id) child (Alive (begun s.format i links)) (swapped p child other) out) in
+    subst (λ v. Beside p life o (with_process (without_message s id) child (Alive (begun s.format i links))) (with_process (without_message t id) child (Alive (begun v i links)))) (sym h.beside.format)
+    (beside_other p life o (without_message s id) (without_message t id) child (Alive (begun s.format i links)) (swapped p child other) out) in
     let made = beside_made p life o (with_process (without_message s id) child (Alive (begun s.format i links))) (with_process (without_message t id) child (Alive (begun t.format i links))) (λ n. if child.home == n then 1 else 0) set in
     let put = beside_put p life o (service.with_created (without_message s id) child i links) (service.with_created (without_message t id) child i links) (answer_to m (PlainWhat.Created child)) (answer_off c e p x life o s t (answer_id m.id) h refl) made in
     led p life o u (when test (with_sent (service.with_created (without_message t id) child i links) (Some (answer_to m (PlainWhat.Created child))))) (bind (slice_get t.images image) (service.creates_of t id m child links))
     (ap (λ v. bind (slice_get v image) (service.creates_of t id m child links)) h.beside.images ∙ ap (λ v. bind v (service.creates_of t id m child links)) found
-      ∙ ap (λ v. when (((m.to.num == 0) && nat_lt m.to.home v) && pid_eq child (pid_of m.to.home (first_number + t.made m.to.home))) (with_sent (service.with_created (without_message t id) child i links) (Some (answer_to m (PlainWhat.Created child))))) h.beside.machines
-      ∙ ap (λ v. when (service.is_kernel s m.to && pid_eq child (pid_of m.to.home (first_number + v))) (with_sent (service.with_created (without_message t id) child i links) (Some (answer_to m (PlainWhat.Created child))))) (h.beside.made m.to.home))
+    ∙ ap (λ v. when (((m.to.num == 0) && nat_lt m.to.home v) && pid_eq child (pid_of m.to.home (first_number + t.made m.to.home))) (with_sent (service.with_created (without_message t id) child i links) (Some (answer_to m (PlainWhat.Created child))))) h.beside.machines
+    ∙ ap (λ v. when (service.is_kernel s m.to && pid_eq child (pid_of m.to.home (first_number + v))) (with_sent (service.with_created (without_message t id) child i links) (Some (answer_to m (PlainWhat.Created child))))) (h.beside.made m.to.home))
     (when_beside p life o test (with_sent (service.with_created (without_message s id) child i links) (Some (answer_to m (PlainWhat.Created child)))) u (with_sent (service.with_created (without_message t id) child i links) (Some (answer_to m (PlainWhat.Created child)))) put rest)
 creates_beside c e p x life o s t u id m child _ h there is = none_some u is
 
@@ -254,7 +253,7 @@ no_room_beside c e p x life o s t u id m (PlainWhat.Create image links) h there 
     led p life o u (when (service.is_kernel s m.to) (with_sent (without_message t id) (Some (answer_to m PlainWhat.NoRoom)))) (service.has_no_room t id m (PlainWhat.Create image links))
     (ap (λ v. when ((m.to.num == 0) && nat_lt m.to.home v) (with_sent (without_message t id) (Some (answer_to m PlainWhat.NoRoom)))) h.beside.machines)
     (when_beside p life o (service.is_kernel s m.to) (with_sent (without_message s id) (Some (answer_to m PlainWhat.NoRoom))) u (with_sent (without_message t id) (Some (answer_to m PlainWhat.NoRoom)))
-      (beside_put p life o (without_message s id) (without_message t id) (answer_to m PlainWhat.NoRoom) (answer_off c e p x life o s t (answer_id m.id) h refl) out) is)
+    (beside_put p life o (without_message s id) (without_message t id) (answer_to m PlainWhat.NoRoom) (answer_off c e p x life o s t (answer_id m.id) h refl) out) is)
 no_room_beside c e p x life o s t u id m _ h there is = none_some u is
 
 asked_beside : (c e : MsgId → ℕ) (p : Pid) (x : PlainProcess) (life : Life) (o : Option PlainMessage) (s t u : OneKernel) (id : MsgId) (m : PlainMessage) (w : PlainWhat) → Going c e p x life o s t → s.bag id ≡ Some m → follows_request s id m w ≡ Some u
@@ -290,7 +289,7 @@ step_beside c e p x life o s t u (Label.Ran q k) h other is =
     let (m, plain, last) = bind-is (kernel.plain_steps k (kernel.machine_of y)) (λ (m : kernel.Machine). Some (kernel.goes_on s q (kernel.with_machine y m))) u rest in
     led p life o u (Some (kernel.goes_on t q (kernel.with_machine y m))) (kernel.step t (Label.Ran q k))
     (ap (λ v. bind v (λ (w : PlainProcess). bind (kernel.plain_steps k (kernel.machine_of w)) (λ (n : kernel.Machine). Some (kernel.goes_on t q (kernel.with_machine w n))))) (running_same p life o s t q apart h.beside ∙ runs)
-      ∙ ap (λ v. bind v (λ (n : kernel.Machine). Some (kernel.goes_on t q (kernel.with_machine y n)))) plain)
+    ∙ ap (λ v. bind v (λ (n : kernel.Machine). Some (kernel.goes_on t q (kernel.with_machine y n)))) plain)
     (by_same p life o (kernel.goes_on s q (kernel.with_machine y m)) u (kernel.goes_on t q (kernel.with_machine y m)) (beside_other p life o s t q (Alive (kernel.with_machine y m)) (swapped p q apart) h.beside) last)
 step_beside c e p x life o s t u (Label.Call q n d) h other is =
     let apart = other_by p q (λ same. other (sym same)) in
@@ -338,8 +337,8 @@ step_beside c e p x life o s t u (Label.Took id) h other is =
     let too = there_too p life o s t id m (there_apart c e p x life o s t id m h there) there h.beside in
     led p life o u (service.takes t id m) (kernel.step t (Label.Took id)) (ap (λ v. bind v (service.takes t id)) too)
     (takes_beside_if p life o u (pid_eq m.to switchboard) (pid_eq m.to manager) (bind (board.board_takes s.switchboard m m.what) (λ k. Some (service.switchboard_took s id k)))
-      (bind (manage.manager_takes s.manager s.machines (length s.images) m m.what) (λ k. Some (service.manager_took s id k))) (bind (board.board_takes t.switchboard m m.what) (λ k. Some (service.switchboard_took t id k)))
-      (bind (manage.manager_takes t.manager t.machines (length t.images) m m.what) (λ k. Some (service.manager_took t id k))) (board_beside c e p x life o s t u id m h there) (manager_beside c e p x life o s t u id m h there) last)
+    (bind (manage.manager_takes s.manager s.machines (length s.images) m m.what) (λ k. Some (service.manager_took s id k))) (bind (board.board_takes t.switchboard m m.what) (λ k. Some (service.switchboard_took t id k)))
+    (bind (manage.manager_takes t.manager t.machines (length t.images) m m.what) (λ k. Some (service.manager_took t id k))) (board_beside c e p x life o s t u id m h there) (manager_beside c e p x life o s t u id m h there) last)
 step_beside c e p x life o s t u (Label.Dropped id) h other is =
     let (m, there, rest) = bind-is (s.bag id) (λ v. bind (kernel.why_ended (s.processes v.to)) (kernel.drops s id v)) u is in
     let (y, over, last) = bind-is (kernel.why_ended (s.processes m.to)) (kernel.drops s id m) u rest in

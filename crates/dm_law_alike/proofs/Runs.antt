@@ -1,5 +1,5 @@
 -- Each run of a kernel without machines is one of its twin.
-use Rattle.dm_law_one.proofs.Names.{◌≡◌, ℕ, ◌+◌, true, refl, ap, ◌∙◌, sym, subst, arith, List, [], ◌∷◌, Option, None, Some, MsgId, PlainMessage, PlainWhat, Boot, IsValid, Label, OneKernel, manager, bind, replay, start, reception, entry}
+use Rattle.dm_law_one.proofs.Names.{◌≡◌, ℕ, ◌+◌, true, refl, ap, ◌∙◌, subst, List, [], ◌∷◌, Some, MsgId, PlainMessage, PlainWhat, Label, OneKernel, manager, bind, replay, start, reception, entry}
 use Rattle.dm_law_one.proofs.Runs.{after_step, start-sound}
 use Rattle.dm_law_one.proofs.Sound.{Sound}
 use Rattle.dm_law_one.proofs.Steps.{bind-is}

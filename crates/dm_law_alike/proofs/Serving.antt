@@ -1,5 +1,5 @@
 -- What kernels do with messages for living processes, and what receives come to.
-use Rattle.dm_law_one.proofs.Names.{◌≡◌, ℕ, ◌+◌, ◌-◌, ◌==◌, ◌&&◌, Bool, true, false, refl, ap, ◌∙◌, sym, subst, nat_lt, nat_le, arith, nat_tests, ⊤, if◌then◌else◌, List, length, take, drop, Option, None, Some, Pid, pid_eq, MsgId, id_of, option_map, option_map_or, PlainLink, PlainMessage, PlainWhat, Direction, Reply, Why}
+use Rattle.dm_law_one.proofs.Names.{◌≡◌, ℕ, ◌+◌, ◌-◌, ◌==◌, ◌&&◌, Bool, true, false, refl, ap, ◌∙◌, sym, subst, nat_le, arith, nat_tests, if◌then◌else◌, List, length, take, drop, Option, None, Some, Pid, pid_eq, MsgId, option_map, option_map_or, PlainLink, PlainMessage, PlainWhat, Direction, Reply, Why}
 use Rattle.dm_law_one.proofs.Names.{PlainProcess, PlainStatus, Ready, Waiting, Moving, Life, Alive, Ended, MoveNote, OneKernel, with_process, with_sent, without_message, answer_id, answer_to, first_failed, bind, serves, instruction}
 use Rattle.dm_law_one.proofs.Facts.{none_some}
 use Rattle.dm_law_one.proofs.Counted.{is_piece}

@@ -1,17 +1,14 @@
 -- What each way of changing a kernel keeps of a process that nobody can reach.
-use Rattle.dm_law_one.proofs.Names.{◌≡◌, ℕ, ◌+◌, ◌&&◌, ◌||◌, Bool, true, false, refl, ap, ◌∙◌, sym, subst, inl, inr, arith, nat_tests, ⊤, if◌then◌else◌, List, [], ◌∷◌, ◌++◌, length, slice_get, Option, None, Some, cases_Bool, false≢true, Pid, pid_eq, MsgId, id_eq, PlainLink, PlainMessage, PlainWhat}
-use Rattle.dm_law_one.proofs.Names.{Life, Alive, Ended, MoveNote, OneKernel, Manager, Switchboard, Pending, PlainProcess, PlainStatus, Ready, Waiting, Moving, with_process, with_sent, with_note, without_note, without_message, manager, switchboard, first_empty, link_at, option_map_or}
-use Rattle.dm_law_one.proofs.Facts.{none_some}
-use Rattle.dm_law_one.proofs.Equal.{pid_eq-is}
+use Rattle.dm_law_one.proofs.Names.{◌≡◌, ℕ, ◌+◌, ◌&&◌, ◌||◌, Bool, true, false, refl, ap, ◌∙◌, sym, subst, inl, inr, arith, nat_tests, if◌then◌else◌, List, [], ◌∷◌, ◌++◌, slice_get, Option, None, Some, cases_Bool, Pid, pid_eq, MsgId, PlainLink, PlainMessage, PlainWhat}
+use Rattle.dm_law_one.proofs.Names.{Alive, Ended, MoveNote, OneKernel, Manager, Switchboard, Pending, PlainProcess, with_process, with_sent, with_note, without_note, without_message, manager, first_empty, link_at, option_map_or}
 use Rattle.dm_law_one.proofs.Movers.{stayed, came}
 use Rattle.dm_onekernel.specs.Kernel.{NamedLink}
-use Rattle.dm_onekernel.specs.Manager.{child_numbered}
 use Rattle.dm_onekernel.specs.Calls as calls
 use Rattle.dm_onekernel.specs.Receiving as receiving
-use Rattle.std.specs.Prelude.{zero, suc, slice_set, filter_map, replicate, map}
+use Rattle.std.specs.Prelude.{zero, suc, slice_set, filter_map}
 use Rattle.dm_law_always.specs.Fits.{Each}
 use Rattle.dm_law_always.proofs.Confined.Calls.{set_each}
-use Rattle.dm_law_alike.specs.Private.{is_numbered, acts_on, Spared, MaybeSpared, OwnerSpared, MessageSpares, IsSpared}
+use Rattle.dm_law_alike.specs.Private.{is_numbered, Spared, MaybeSpared, OwnerSpared, MessageSpares, IsSpared}
 
 -- of a list of slots
 pub at_spared : (cs : List Pid) (p : Pid) (slots : List (Option PlainLink)) (n : ℕ) → Each (MaybeSpared cs p) slots → MaybeSpared cs p (link_at slots n)

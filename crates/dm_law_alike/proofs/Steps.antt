@@ -1,10 +1,9 @@
 -- Each step of a kernel without machines is one of its twin, under the names there.
-use Rattle.dm_law_one.proofs.Names.{◌≡◌, ℕ, ◌+◌, ◌==◌, ◌&&◌, Bool, true, false, refl, ap, ◌∙◌, sym, subst, nat_lt, nat_le, arith, nat_tests, ⊤, if◌then◌else◌, List, length, slice_get, Option, None, Some, Pid, pid_of, pid_eq, MsgId, id_eq, id_of, answer_id, answer_to, option_map, PlainLink, PlainMessage, PlainWhat}
-use Rattle.dm_law_one.proofs.Names.{Called, Replies, Sends, Waits, Outputs, Ends, PlainProcess, Life, Alive, Ended, MoveNote, OneKernel, with_process, with_sent, with_note, without_note, without_message, bind, when, serves, follows_request, gone_what, begun, BootImage, first_number}
-use Rattle.dm_law_one.proofs.Names.{Label, Reply, Why, Outcome, manager, switchboard}
+use Rattle.dm_law_one.proofs.Names.{◌≡◌, ℕ, ◌+◌, ◌==◌, ◌&&◌, Bool, true, false, refl, ap, ◌∙◌, sym, subst, nat_lt, nat_le, arith, nat_tests, if◌then◌else◌, List, slice_get, Option, None, Some, Pid, pid_of, pid_eq, MsgId, id_eq, answer_id, answer_to, option_map, PlainLink, PlainMessage, PlainWhat}
+use Rattle.dm_law_one.proofs.Names.{Replies, Sends, Waits, Outputs, Ends, PlainProcess, Life, Alive, Ended, MoveNote, OneKernel, with_process, with_sent, with_note, without_note, without_message, bind, when, serves, follows_request, gone_what, begun, BootImage, first_number}
+use Rattle.dm_law_one.proofs.Names.{Label, Reply, Why, Outcome, manager}
 use Rattle.dm_law_one.proofs.Facts.{none_some}
 use Rattle.dm_law_one.proofs.Equal.{id_eq-is, id_eq-same, pid_eq-is}
-use Rattle.dm_law_one.proofs.Counted.{is_piece}
 use Rattle.dm_law_one.proofs.Steps.{bind-is, when-is}
 use Rattle.dm_law_one.proofs.Servers.{note-is}
 use Rattle.dm_law_one.proofs.Sound.{Sound}
@@ -13,10 +12,10 @@ use Rattle.dm_onekernel.specs.Receiving as receiving
 use Rattle.dm_onekernel.specs.Service as service
 use Rattle.dm_onekernel.specs.Step as kernel
 use Rattle.dm_law_always.proofs.Fits.Creates.{fresh_child}
-use Rattle.dm_law_alike.specs.Alike.{Renaming, KeepsOrder, GoOn, Stands, under, TwinProcess, TwinLife, TwinNote, IsUnmade, Twins, Says, Twin}
+use Rattle.dm_law_alike.specs.Alike.{Renaming, KeepsOrder, Stands, under, TwinProcess, TwinLife, TwinNote, IsUnmade, Twins, Says, Twin}
 use Rattle.dm_law_alike.proofs.Numbers.{some_same, answer_stands}
 use Rattle.dm_law_alike.proofs.Ways.{twin_set, twin_out, twin_put, twin_note, twin_unnote, twin_made}
-use Rattle.dm_law_alike.proofs.Calling.{TwinTrap, TwinCalled}
+use Rattle.dm_law_alike.proofs.Calling.{TwinTrap}
 use Rattle.dm_law_alike.proofs.Serving.{KernelTwin, kernel_twin, twin_running, twin_trap, twin_hand, twin_completing, twin_serves, TwinCompleted}
 use Rattle.dm_law_alike.proofs.Taking.{twin_takes, is_told}
 
@@ -48,9 +47,9 @@ ran_twin r s t u p k h e =
     let there : kernel.plain_steps k (kernel.machine_of y.process) ≡ Some m = ap (kernel.plain_steps k) machine ∙ plain in
     moved r u (Some (kernel.goes_on t p (kernel.with_machine y.process m))) (kernel.step t (Label.Ran p k))
     (ap (λ o. bind o (λ (w : PlainProcess). bind (kernel.plain_steps k (kernel.machine_of w)) (λ (n : kernel.Machine). Some (kernel.goes_on t p (kernel.with_machine w n))))) y.is
-      ∙ ap (λ o. bind o (λ (n : kernel.Machine). Some (kernel.goes_on t p (kernel.with_machine y.process n)))) there)
+    ∙ ap (λ o. bind o (λ (n : kernel.Machine). Some (kernel.goes_on t p (kernel.with_machine y.process n)))) there)
     (kernel_twin r (kernel.goes_on s p (kernel.with_machine x m)) u (kernel.goes_on t p (kernel.with_machine y.process m))
-      (twin_set r s t p (Alive (kernel.with_machine x m)) (Alive (kernel.with_machine y.process m)) (ran_process (r p) x y.process m y.twin) h) last)
+    (twin_set r s t p (Alive (kernel.with_machine x m)) (Alive (kernel.with_machine y.process m)) (ran_process (r p) x y.process m y.twin) h) last)
 
 replies_twin : (r : Renaming) (s t u : OneKernel) (p : Pid) (n : ℕ) (c : Reply) (a b : kernel.Trap) → Twins r s t → TwinTrap r p a b → kernel.replies s p n c a ≡ Some u → KernelTwin r u (kernel.replies t p n c b)
 replies_twin r s t u p n c (kernel.Calls k (Replies d x)) (kernel.Calls o (Replies g y)) h twin e =
@@ -160,15 +159,15 @@ creates_twin r c e s t u i j m child links image keeps st name sound h is =
     let out = twin_out r s t i j keeps st h in
     let begun_ = begun_twin r s t child image links unmade least in
     let set : Twins r (with_process (without_message s i) child (Alive (begun s.format image links))) (with_process (without_message t j) child (Alive (begun t.format image links))) =
-        subst (λ v. Twins r (with_process (without_message s i) child (Alive (begun s.format image links))) (with_process (without_message t j) child (Alive (begun v image links)))) (sym h.format)
-        (twin_set r (without_message s i) (without_message t j) child (Alive (begun s.format image links)) (Alive (begun s.format image links)) begun_ out) in
+    subst (λ v. Twins r (with_process (without_message s i) child (Alive (begun s.format image links))) (with_process (without_message t j) child (Alive (begun v image links)))) (sym h.format)
+    (twin_set r (without_message s i) (without_message t j) child (Alive (begun s.format image links)) (Alive (begun s.format image links)) begun_ out) in
     let made = twin_made r (with_process (without_message s i) child (Alive (begun s.format image links))) (with_process (without_message t j) child (Alive (begun t.format image links))) (λ n. if child.home == n then 1 else 0) set in
     let put = answer_twin r (service.with_created (without_message s i) child image links) (service.with_created (without_message t j) child image links) i j m (PlainWhat.Created child) keeps st name made in
     when_twin r (service.is_kernel s m.to && pid_eq child (pid_of m.to.home (first_number + s.made m.to.home))) (service.is_kernel t m.to && pid_eq child (pid_of m.to.home (first_number + t.made m.to.home)))
     (with_sent (service.with_created (without_message s i) child image links) (Some (answer_to m (PlainWhat.Created child))))
     (with_sent (service.with_created (without_message t j) child image links) (Some (answer_to (under j m) (PlainWhat.Created child)))) u
     (ap (λ v. ((m.to.num == 0) && nat_lt m.to.home v) && pid_eq child (pid_of m.to.home (first_number + t.made m.to.home))) h.machines
-      ∙ ap (λ v. service.is_kernel s m.to && pid_eq child (pid_of m.to.home (first_number + v))) (h.made m.to.home)) put is
+    ∙ ap (λ v. service.is_kernel s m.to && pid_eq child (pid_of m.to.home (first_number + v))) (h.made m.to.home)) put is
 
 creates_by : (r : Renaming) (c e : MsgId → ℕ) (s t u : OneKernel) (i j : MsgId) (m : PlainMessage) (child : Pid) (w : PlainWhat) → KeepsOrder r → Stands r i j → m.id ≡ i → Sound c e s → Twins r s t
     → service.creates s i m child w ≡ Some u → KernelTwin r u (service.creates t j (under j m) child w)
@@ -265,14 +264,14 @@ twin_step r c e s t u (Label.Served id) keeps sound told h is =
     let name = sound.entered.named id m there_ in
     twin_of r t u (Label.Served id) (Label.Served n.name) n.stands
     (moved r u (serves t n.name (under n.name m) y.process m.what) (kernel.step t (Label.Served n.name))
-      (ap (λ o. bind o (λ v. bind (kernel.at_hand t v.to) (λ p. serves t n.name v p v.what))) n.is ∙ ap (λ o. bind o (λ p. serves t n.name (under n.name m) p m.what)) y.is)
-      (twin_serves r s t id n.name m x y.process u keeps h n.stands name (λ piece. (sound.movers.returns id m there_ piece).0) y.twin last))
+    (ap (λ o. bind o (λ v. bind (kernel.at_hand t v.to) (λ p. serves t n.name v p v.what))) n.is ∙ ap (λ o. bind o (λ p. serves t n.name (under n.name m) p m.what)) y.is)
+    (twin_serves r s t id n.name m x y.process u keeps h n.stands name (λ piece. (sound.movers.returns id m there_ piece).0) y.twin last))
 twin_step r c e s t u (Label.Took id) keeps sound told h is =
     let (m, there_, last) = bind-is (s.bag id) (service.takes s id) u is in
     let n = there r s t id m h there_ in
     twin_of r t u (Label.Took id) (Label.Took n.name) n.stands
     (moved r u (service.takes t n.name (under n.name m)) (kernel.step t (Label.Took n.name)) (ap (λ o. bind o (service.takes t n.name)) n.is)
-      (twin_takes r s t id n.name m u keeps h n.stands (sound.entered.named id m there_) (told id m there_) last))
+    (twin_takes r s t id n.name m u keeps h n.stands (sound.entered.named id m there_) (told id m there_) last))
 twin_step r c e s t u (Label.Dropped id) keeps sound told h is =
     let (m, there_, rest) = bind-is (s.bag id) (λ v. bind (kernel.why_ended (s.processes v.to)) (kernel.drops s id v)) u is in
     let (y, over, last) = bind-is (kernel.why_ended (s.processes m.to)) (kernel.drops s id m) u rest in
@@ -280,8 +279,8 @@ twin_step r c e s t u (Label.Dropped id) keeps sound told h is =
     let why = why_of m.to (r m.to) (s.processes m.to) (t.processes m.to) y (h.processes m.to) over in
     twin_of r t u (Label.Dropped id) (Label.Dropped n.name) n.stands
     (moved r u (kernel.drops t n.name (under n.name m) y) (kernel.step t (Label.Dropped n.name))
-      (ap (λ o. bind o (λ v. bind (kernel.why_ended (t.processes v.to)) (kernel.drops t n.name v))) n.is ∙ ap (λ o. bind o (kernel.drops t n.name (under n.name m))) why)
-      (when_twin r (service.is_dropped m.what) (service.is_dropped m.what) (without_message s id) (without_message t n.name) u refl (twin_out r s t id n.name keeps n.stands h) last))
+    (ap (λ o. bind o (λ v. bind (kernel.why_ended (t.processes v.to)) (kernel.drops t n.name v))) n.is ∙ ap (λ o. bind o (kernel.drops t n.name (under n.name m))) why)
+    (when_twin r (service.is_dropped m.what) (service.is_dropped m.what) (without_message s id) (without_message t n.name) u refl (twin_out r s t id n.name keeps n.stands h) last))
 twin_step r c e s t u (Label.Gone id) keeps sound told h is =
     let (m, there_, rest) = bind-is (s.bag id) (λ v. bind (kernel.why_ended (s.processes v.to)) (kernel.says_gone s id v)) u is in
     let (y, over, last) = bind-is (kernel.why_ended (s.processes m.to)) (kernel.says_gone s id m) u rest in
@@ -289,20 +288,20 @@ twin_step r c e s t u (Label.Gone id) keeps sound told h is =
     let why = why_of m.to (r m.to) (s.processes m.to) (t.processes m.to) y (h.processes m.to) over in
     twin_of r t u (Label.Gone id) (Label.Gone n.name) n.stands
     (moved r u (kernel.says_gone t n.name (under n.name m) y) (kernel.step t (Label.Gone n.name))
-      (ap (λ o. bind o (λ v. bind (kernel.why_ended (t.processes v.to)) (kernel.says_gone t n.name v))) n.is ∙ ap (λ o. bind o (kernel.says_gone t n.name (under n.name m))) why)
-      (gone_by r s t u id n.name m (gone_what m.what) keeps n.stands (sound.entered.named id m there_) h last))
+    (ap (λ o. bind o (λ v. bind (kernel.why_ended (t.processes v.to)) (kernel.says_gone t n.name v))) n.is ∙ ap (λ o. bind o (kernel.says_gone t n.name (under n.name m))) why)
+    (gone_by r s t u id n.name m (gone_what m.what) keeps n.stands (sound.entered.named id m there_) h last))
 twin_step r c e s t u (Label.Created id child) keeps sound told h is =
     let (m, there_, last) = bind-is (s.bag id) (λ v. service.creates s id v child v.what) u is in
     let n = there r s t id m h there_ in
     twin_of r t u (Label.Created id child) (Label.Created n.name child) (n.stands, refl)
     (moved r u (service.creates t n.name (under n.name m) child m.what) (kernel.step t (Label.Created n.name child)) (ap (λ o. bind o (λ v. service.creates t n.name v child v.what)) n.is)
-      (creates_by r c e s t u id n.name m child m.what keeps n.stands (sound.entered.named id m there_) sound h last))
+    (creates_by r c e s t u id n.name m child m.what keeps n.stands (sound.entered.named id m there_) sound h last))
 twin_step r c e s t u (Label.NoSpace id a b) keeps sound told h is =
     let (m, there_, last) = bind-is (s.bag id) (λ v. service.has_no_room s id v v.what) u is in
     let n = there r s t id m h there_ in
     twin_of r t u (Label.NoSpace id a b) (Label.NoSpace n.name a b) (n.stands, refl, refl)
     (moved r u (service.has_no_room t n.name (under n.name m) m.what) (kernel.step t (Label.NoSpace n.name a b)) (ap (λ o. bind o (λ v. service.has_no_room t n.name v v.what)) n.is)
-      (no_room_by r s t u id n.name m m.what keeps n.stands (sound.entered.named id m there_) h last))
+    (no_room_by r s t u id n.name m m.what keeps n.stands (sound.entered.named id m there_) h last))
 twin_step r c e s t u (Label.Asked id) keeps sound told h is =
     let (m, there_, rest) = bind-is (s.bag id) (λ v. bind (kernel.at_hand s v.to) (λ p. follows_request s id v v.what)) u is in
     let (x, hand, last) = bind-is (kernel.at_hand s m.to) (λ p. follows_request s id m m.what) u rest in
@@ -310,8 +309,8 @@ twin_step r c e s t u (Label.Asked id) keeps sound told h is =
     let y = twin_hand r s t m.to x h hand in
     twin_of r t u (Label.Asked id) (Label.Asked n.name) n.stands
     (moved r u (follows_request t n.name (under n.name m) m.what) (kernel.step t (Label.Asked n.name))
-      (ap (λ o. bind o (λ v. bind (kernel.at_hand t v.to) (λ p. follows_request t n.name v v.what))) n.is ∙ ap (λ o. bind o (λ p. follows_request t n.name (under n.name m) m.what)) y.is)
-      (asked_by r s t u id n.name m m.what keeps n.stands h last))
+    (ap (λ o. bind o (λ v. bind (kernel.at_hand t v.to) (λ p. follows_request t n.name v v.what))) n.is ∙ ap (λ o. bind o (λ p. follows_request t n.name (under n.name m) m.what)) y.is)
+    (asked_by r s t u id n.name m m.what keeps n.stands h last))
 twin_step r c e s t u (Label.Answered id o) keeps sound told h is =
     let (p, noted, rest) = bind-is (s.noted id) (λ q. bind (s.notes q) (λ n. service.ends_move s id q n o)) u is in
     let (n, notes, last) = bind-is (s.notes p) (λ n. service.ends_move s id p n o) u rest in
@@ -321,5 +320,5 @@ twin_step r c e s t u (Label.Answered id o) keeps sound told h is =
     let follows : t.noted w.note.id ≡ Some p = h.noted id w.note.id st ∙ noted in
     twin_of r t u (Label.Answered id o) (Label.Answered w.note.id o) (st, refl)
     (moved r u (service.ends_move t w.note.id p w.note o) (kernel.step t (Label.Answered w.note.id o))
-      (ap (λ q. bind q (λ v. bind (t.notes v) (λ z. service.ends_move t w.note.id v z o))) follows ∙ ap (λ q. bind q (λ z. service.ends_move t w.note.id p z o)) w.is)
-      (ends_by r s t u id w.note.id p n w.note o keeps st w.asker h last))
+    (ap (λ q. bind q (λ v. bind (t.notes v) (λ z. service.ends_move t w.note.id v z o))) follows ∙ ap (λ q. bind q (λ z. service.ends_move t w.note.id p z o)) w.is)
+    (ends_by r s t u id w.note.id p n w.note o keeps st w.asker h last))

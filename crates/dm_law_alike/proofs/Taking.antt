@@ -1,9 +1,8 @@
 -- What the servers do with twin messages.
-use Rattle.dm_law_one.proofs.Names.{◌≡◌, ℕ, ◌+◌, ◌*◌, ◌==◌, ◌&&◌, Bool, true, false, refl, ap, ◌∙◌, sym, subst, nat_lt, nat_le, arith, ⊤, if◌then◌else◌, List, [], ◌∷◌, ◌++◌, length, slice_get, Option, None, Some, Pid, pid_of, pid_eq, MsgId, id_of, option_map, option_map_or, PlainLink, PlainMessage, PlainWhat}
-use Rattle.dm_law_one.proofs.Names.{Manager, Switchboard, Pending, PendingKind, OneKernel, with_sent, without_message, switchboard, manager, code_of_outcome, bind, cases_Bool, inl, inr}
+use Rattle.dm_law_one.proofs.Names.{◌≡◌, ℕ, ◌+◌, ◌*◌, ◌==◌, ◌&&◌, Bool, true, false, refl, ap, ◌∙◌, sym, subst, nat_lt, ⊤, if◌then◌else◌, List, [], ◌∷◌, ◌++◌, length, slice_get, Option, None, Some, Pid, pid_of, pid_eq, MsgId, option_map_or, PlainLink, PlainMessage, PlainWhat}
+use Rattle.dm_law_one.proofs.Names.{Manager, Switchboard, Pending, PendingKind, OneKernel, with_sent, without_message, switchboard, manager, code_of_outcome, bind}
 use Rattle.dm_law_one.proofs.Facts.{none_some}
 use Rattle.dm_law_one.proofs.Steps.{bind-is}
-use Rattle.dm_onekernel.specs.Kernel.{NamedLink}
 use Rattle.dm_onekernel.specs.Manager as manage
 use Rattle.dm_onekernel.specs.Service as service
 use Rattle.dm_onekernel.specs.Switchboard as board
@@ -118,8 +117,8 @@ controls_twin r g ps k machines (Some child) (operation ∷ []) links h = contro
 controls_twin r g ps k machines (Some child) (operation ∷ machine ∷ []) links h =
     took_if r (operation == 5) (manage.moves_child g machines child machine links) (manage.bad_request g links) (manage.moves_child (as_manager g ps k) machines child machine links) (manage.bad_request (as_manager g ps k) links)
     (took_if r (nat_lt machine machines) (manage.sends_request g PendingKind.Move child (PlainWhat.Move machine) (slice_get links 0)) (manage.bad_request g links)
-      (manage.sends_request (as_manager g ps k) PendingKind.Move child (PlainWhat.Move machine) (slice_get links 0)) (manage.bad_request (as_manager g ps k) links)
-      (request_twin r g ps k PendingKind.Move child (PlainWhat.Move machine) (slice_get links 0) h) (bad_twin r g ps k links h))
+    (manage.sends_request (as_manager g ps k) PendingKind.Move child (PlainWhat.Move machine) (slice_get links 0)) (manage.bad_request (as_manager g ps k) links)
+    (request_twin r g ps k PendingKind.Move child (PlainWhat.Move machine) (slice_get links 0) h) (bad_twin r g ps k links h))
     (bad_twin r g ps k links h)
 controls_twin r g ps k machines _ body links h = bad_twin r g ps k links h
 
@@ -173,7 +172,7 @@ answer_found r g ps k n a children code links (Some x) (Some y) t keeps is h fou
     let here : Manager = record g { children = children; pending = manage.without_pending n g.pending } in
     let there : Manager = record g { children = children; pending = manage.without_pending a ps; sent = k } in
     let twin : TookManager r (manage.answers_over here x.answer code links) (manage.answers_over there x.answer code links) =
-        over_twin r here (manage.without_pending a ps) k x.answer code links (record { children = refl; pending = without_twin r manager n a g.pending ps keeps is h.pending; sent = h.sent }) in
+    over_twin r here (manage.without_pending a ps) k x.answer code links (record { children = refl; pending = without_twin r manager n a g.pending ps keeps is h.pending; sent = h.sent }) in
     record {
       took = manage.answers_over there y.answer code links;
       is = refl;
@@ -217,8 +216,8 @@ board_row r s t id j m u keeps h st e =
     let is : board.board_takes t.switchboard (under j m) m.what ≡ Some b.took = ap (λ v. board.board_takes v (under j m) m.what) there ∙ b.is in
     subst (λ o. KernelTwin r u (bind o (λ k. Some (service.switchboard_took t j k)))) (sym is)
     (kernel_twin r (service.switchboard_took s id a) u (service.switchboard_took t j b.took)
-      (twin_sent r (record (without_message s id) { switchboard = a.switchboard }) (record (without_message t j) { switchboard = b.took.switchboard }) a.answer b.took.answer keeps b.twin.answer
-        (twin_board r (without_message s id) (without_message t j) a.switchboard b.took.switchboard b.twin.names b.twin.sent (twin_out r s t id j keeps st h))) last)
+    (twin_sent r (record (without_message s id) { switchboard = a.switchboard }) (record (without_message t j) { switchboard = b.took.switchboard }) a.answer b.took.answer keeps b.twin.answer
+    (twin_board r (without_message s id) (without_message t j) a.switchboard b.took.switchboard b.twin.names b.twin.sent (twin_out r s t id j keeps st h))) last)
 
 manager_row : (r : Renaming) (s t : OneKernel) (id j : MsgId) (m : PlainMessage) (u : OneKernel) → KeepsOrder r → Twins r s t → Stands r id j → m.id ≡ id → (is_told m.what ≡ true → id.from ≡ manager)
     → bind (manage.manager_takes s.manager s.machines (length s.images) m m.what) (λ k. Some (service.manager_took s id k)) ≡ Some u
@@ -229,13 +228,13 @@ manager_row r s t id j m u keeps h st name told e =
     let own : is_told m.what ≡ true → r manager m.id.n ≡ Some j.n = λ k. ap (λ p. r p m.id.n) (sym (told k)) ∙ ap (λ (v : MsgId). r id.from v.n) name ∙ st.n in
     let b = manager_by r s.manager t.manager.pending t.manager.sent s.machines (length s.images) m j m.what a keeps (record { children = refl; pending = h.pending; sent = h.manager }) own takes in
     let is : manage.manager_takes t.manager t.machines (length t.images) (under j m) m.what ≡ Some b.took =
-        ap (λ v. manage.manager_takes v t.machines (length t.images) (under j m) m.what) there
-        ∙ ap (λ v. manage.manager_takes (as_manager s.manager t.manager.pending t.manager.sent) v (length t.images) (under j m) m.what) h.machines
-        ∙ ap (λ v. manage.manager_takes (as_manager s.manager t.manager.pending t.manager.sent) s.machines (length v) (under j m) m.what) h.images ∙ b.is in
+    ap (λ v. manage.manager_takes v t.machines (length t.images) (under j m) m.what) there
+    ∙ ap (λ v. manage.manager_takes (as_manager s.manager t.manager.pending t.manager.sent) v (length t.images) (under j m) m.what) h.machines
+    ∙ ap (λ v. manage.manager_takes (as_manager s.manager t.manager.pending t.manager.sent) s.machines (length v) (under j m) m.what) h.images ∙ b.is in
     subst (λ o. KernelTwin r u (bind o (λ k. Some (service.manager_took t j k)))) (sym is)
     (kernel_twin r (service.manager_took s id a) u (service.manager_took t j b.took)
-      (twin_sent r (record (without_message s id) { manager = a.manager }) (record (without_message t j) { manager = b.took.manager }) a.message b.took.message keeps b.twin.message
-        (twin_manager r (without_message s id) (without_message t j) a.manager b.took.manager b.twin.manager (twin_out r s t id j keeps st h))) last)
+    (twin_sent r (record (without_message s id) { manager = a.manager }) (record (without_message t j) { manager = b.took.manager }) a.message b.took.message keeps b.twin.message
+    (twin_manager r (without_message s id) (without_message t j) a.manager b.took.manager b.twin.manager (twin_out r s t id j keeps st h))) last)
 
 takes_if : (r : Renaming) (u : OneKernel) (b c : Bool) (x y v w : Option OneKernel) → (x ≡ Some u → KernelTwin r u v) → (y ≡ Some u → KernelTwin r u w) → (if b then x else if c then y else None) ≡ Some u → KernelTwin r u (if b then v else if c then w else None)
 takes_if r u true c x y v w h k e = h e

@@ -1,9 +1,9 @@
 -- What each way of changing two kernels keeps alike.
-use Rattle.dm_law_one.proofs.Names.{◌≡◌, ℕ, ◌+◌, Bool, true, false, refl, ap, ◌∙◌, sym, subst, inl, inr, arith, ⊤, if◌then◌else◌, Option, None, Some, cases_Bool, Pid, pid_eq, MsgId, id_eq, PlainMessage, option_map, switchboard, manager}
-use Rattle.dm_law_one.proofs.Names.{Life, Alive, Ended, MoveNote, OneKernel, Manager, Switchboard, with_process, with_sent, with_note, without_note, without_message}
-use Rattle.dm_law_one.proofs.Equal.{id_eq-is, id_eq-same, pid_eq-is}
+use Rattle.dm_law_one.proofs.Names.{◌≡◌, ℕ, ◌+◌, Bool, true, false, refl, ap, ◌∙◌, sym, subst, inl, inr, if◌then◌else◌, Option, None, Some, cases_Bool, Pid, pid_eq, MsgId, id_eq, PlainMessage, option_map, switchboard, manager}
+use Rattle.dm_law_one.proofs.Names.{Life, MoveNote, OneKernel, Manager, Switchboard, with_process, with_sent, with_note, without_note, without_message}
+use Rattle.dm_law_one.proofs.Equal.{id_eq-is, pid_eq-is}
 use Rattle.dm_law_alike.specs.Alike.{Renaming, KeepsOrder, GoOn, Stands, under, TwinLife, TwinNote, TwinPending, Twins}
-use Rattle.dm_law_alike.proofs.Numbers.{stands_one, stands_for_one, stands_eq}
+use Rattle.dm_law_alike.proofs.Numbers.{stands_eq}
 
 life_if : (q : Pid) (f : ℕ → Option ℕ) (b : Bool) (x y u v : Option Life) → (b ≡ true → TwinLife q f x y) → TwinLife q f u v → TwinLife q f (if b then x else u) (if b then y else v)
 life_if q f true x y u v h k = h refl
