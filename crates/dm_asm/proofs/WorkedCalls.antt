@@ -1,5 +1,5 @@
 -- The definitions, computed on worked texts with calls, given labels, characters and sums.
-use Rattle.dm_asm.proofs.Names.{◌≡◌, ℕ, Ok, Err, Result, List, [], ◌∷◌, ◌++◌, map, codes, refl, Option, Some, Why, Place, assembled, places_of, with_line, form_of, source_lines, words_between, literal_value, distance_of, fields, number_operand, register, target}
+use Rattle.dm_asm.proofs.Names.{◌≡◌, ℕ, Ok, Err, Result, List, [], ◌∷◌, ◌++◌, map, codes, refl, Some, Why, assembled, places_of, with_line, form_of, source_lines, words_between, literal_value, distance_of, fields, number_operand, register, target}
 use Rattle.dm_asm.proofs.Names.{argument_of, call_bytes, cleared, line_value, name_operand, settings, padding, multiple, text_behind, text_in, call_named, call_value, call_operand, value, operand_value, has_label, line_size, why_code, line_bytes, listed_bytes, statement_bytes}
 
 -- the line and the number of a refusal; 0 and 0 where there is an image

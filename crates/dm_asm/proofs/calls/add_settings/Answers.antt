@@ -1,5 +1,5 @@
 -- One register more is set to its operand, an operand is refused, or none is left.
-use Rattle.dm_asm.proofs.Names.{argument_of, suc, ◌≡◌, ◌+◌, ◌++◌, ◌∙◌, ap, sym, arith, nat_tests, length, source_words, place_in, bytes_behind, settings}
+use Rattle.dm_asm.proofs.Names.{argument_of, suc, ◌≡◌, ◌+◌, ◌++◌, ◌∙◌, ap, sym, arith, length, source_words, place_in, bytes_behind, settings}
 use Rattle.dm_asm.proofs.Calling.{settings-more, settings-none, settings-refused}
 use Rattle.dm_asm.proofs.calls.add_settings.Goals as goal
 
