@@ -58,10 +58,11 @@ class Tried:
 
 
 class Rows:
-    """A table of rows: functions that say whether a Tried is right, each by the first line of its documentation."""
+    """A table of rows: functions that say whether a Tried is right, each by the first line of its documentation. What `kept` says of
+    the Tried behind a row must hold too."""
 
-    def __init__(self):
-        self.rows = []
+    def __init__(self, kept=lambda tried: True):
+        self.rows, self.kept = [], kept
 
     def __call__(self, function):
         self.rows.append((function.__doc__.strip().splitlines()[0].rstrip("."), function))
@@ -75,8 +76,9 @@ class Rows:
             if only not in (None, function.__name__):
                 continue
             with tempfile.TemporaryDirectory() as folder:
+                tried = make(folder)
                 try:
-                    end, why = "right" if function(make(folder)) else "WRONG", ""
+                    end, why = "right" if function(tried) and self.kept(tried) else "WRONG", ""
                 except PassedOver as reason:
                     end, why = "passed over", f", {reason}"
             print(f"{name}: {end}{why}", flush=True)
