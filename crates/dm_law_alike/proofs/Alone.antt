@@ -22,11 +22,10 @@ use Rattle.std.specs.Str.{bytes_eq}
 use Rattle.dm_onekernel.specs.Boot.{is_general, slots_of}
 use Rattle.dm_law_always.specs.Fits.{Each, KernelFits, WhatFits, awaits, status_awaits}
 use Rattle.dm_law_always.proofs.Calling.{by_call}
-use Rattle.dm_law_always.proofs.Confined.Calls.{set_each}
 use Rattle.dm_law_always.proofs.Fits.Creates.{fresh_child}
 use Rattle.dm_law_alike.specs.Private.{is_numbered, Spared, MaybeSpared, OwnerSpared, MessageSpares, IsSpared}
 use Rattle.dm_law_alike.proofs.Past.{other_by}
-use Rattle.dm_law_alike.proofs.Sparing.{slot_spared, without_spared, links_spared, placed_spared, own_spared, right_spared, over_spared, spared_out, spared_put, spared_set, spared_end, spared_note, spared_unnote, spared_made, spared_board, spared_manager, spared_child, answers_more}
+use Rattle.dm_law_alike.proofs.Sparing.{set_each, slot_spared, without_spared, links_spared, placed_spared, own_spared, right_spared, over_spared, spared_out, spared_put, spared_set, spared_end, spared_note, spared_unnote, spared_made, spared_board, spared_manager, spared_child, answers_more}
 
 -- a process that goes on
 pub record GoesSpared (cs : List Pid) (p : Pid) (y : PlainProcess) : Type 0 where

@@ -7,8 +7,12 @@ use Rattle.dm_onekernel.specs.Calls as calls
 use Rattle.dm_onekernel.specs.Receiving as receiving
 use Rattle.std.specs.Prelude.{zero, suc, slice_set, filter_map}
 use Rattle.dm_law_always.specs.Fits.{Each}
-use Rattle.dm_law_always.proofs.Confined.Calls.{set_each}
 use Rattle.dm_law_alike.specs.Private.{is_numbered, Spared, MaybeSpared, OwnerSpared, MessageSpares, IsSpared}
+
+pub set_each : {X : Type 0} (P : X → Type 0) (xs : List X) (n : ℕ) (x : X) → P x → Each P xs → Each P (slice_set xs n x)
+set_each P [] n x f h = tt
+set_each P (y ∷ ys) zero x f h = (f, h.1)
+set_each P (y ∷ ys) (suc n) x f h = (h.0, set_each P ys n x f h.1)
 
 -- of a list of slots
 pub at_spared : (cs : List Pid) (p : Pid) (slots : List (Option PlainLink)) (n : ℕ) → Each (MaybeSpared cs p) slots → MaybeSpared cs p (link_at slots n)

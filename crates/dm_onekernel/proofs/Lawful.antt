@@ -22,9 +22,12 @@ use Rattle.dm_onekernel.specs.declared.boot.Format.{Format}
 use Rattle.dm_onekernel.specs.declared.boot.Format.TheVariants.{One, Two}
 use Rattle.dm_onekernel.specs.Boot.{IsValid, blocks_of_image, controls_child, image_is_valid, images_are_valid, leads_somewhere, leads_to_process, leads_to_server, link_is_valid, links_are_valid, manager, memory_size, process_is_valid, process_named, processes_are_valid, slots_of, starting_at, switchboard}
 use Rattle.dm_onekernel.specs.Start.{memory_of, slots_with}
-use Rattle.dm_replay.specs.Begun.{child_of}
-use Rattle.dm_replay.proofs.Making.{image_fits}
-use Rattle.dm_datamove.proofs.Tested.{none_lawful}
+use Rattle.dm_onekernel.specs.Child.{child_of}
+use Rattle.dm_onekernel.proofs.Making.{image_fits}
+
+pub none_lawful : (n : ℕ) → All SlotIsLawful (replicate n None)
+none_lawful zero = All-nil SlotIsLawful
+none_lawful (suc n) = All-cons SlotIsLawful None (replicate n None) tt (none_lawful n)
 
 -- a process that begins
 pub enough : (f : Format) → 3 ≤ slots_of f

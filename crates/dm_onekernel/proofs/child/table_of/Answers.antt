@@ -1,7 +1,7 @@
 use Rattle.std.proofs.Common.{arith}
 use Rattle.std.proofs.lemmas.Grind.{common_steps}
-use Rattle.dm_replay.proofs.Making.{has_room, puts_next}
-use Rattle.dm_replay.proofs.make.table_of.Goals as goal
+use Rattle.dm_onekernel.proofs.Making.{has_room, puts_next}
+use Rattle.dm_onekernel.proofs.child.table_of.Goals as goal
 
 pub unwrap-requires : goal.unwrap-requires
 unwrap-requires c =
