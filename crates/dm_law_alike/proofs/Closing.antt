@@ -1,5 +1,5 @@
 -- Where nothing leads out of what is kept, no services ever show what is asked.
-use Rattle.dm_law_one.proofs.Names.{◌≡◌, ◌⊎◌, ℕ, ◌+◌, ◌≤◌, ◌==◌, Bool, true, false, refl, ap, ◌∙◌, sym, subst, arith, nat_tests, if◌then◌else◌, List, [], ◌∷◌, length, slice_get, Option, None, Some, cases_Bool, false≢true, inl, inr, Pid, pid_eq, MsgId, id_eq, PlainLink, PlainMessage, PlainWhat, Label, IsOwnStep, Boot, IsValid, option_map, option_map_or, bind, replay, reception, entry, start, instruction}
+use Rattle.dm_law_one.proofs.Names.{◌≡◌, ◌⊎◌, ℕ, ◌+◌, ◌≤◌, ◌==◌, Bool, true, false, refl, ap, ◌∙◌, sym, subst, arith, if◌then◌else◌, List, [], ◌∷◌, length, slice_get, Option, None, Some, false≢true, inl, inr, Pid, pid_eq, MsgId, PlainMessage, PlainWhat, Label, IsOwnStep, option_map, option_map_or, bind, replay, reception, entry, start, instruction}
 use Rattle.dm_law_one.proofs.Names.{PlainProcess, PlainStatus, Ready, Waiting, Moving, Life, Alive, Ended, MoveNote, Pending, OneKernel, with_process, with_sent, manager}
 use Rattle.std.specs.Prelude.{zero, suc, ◌<◌}
 use Rattle.dm_law_one.proofs.Facts.{none_some}
@@ -15,20 +15,18 @@ use Rattle.dm_law_always.specs.Fits.{Each, KernelFits}
 use Rattle.dm_law_always.proofs.Fits.Constants.{InOrder, step_constant}
 use Rattle.dm_law_always.proofs.Fits.Start.{fits_step, start_fits}
 use Rattle.dm_law_alike.specs.Acting.{IsAct, AreActs, IsAtHand, IsReady, NoneOwn}
-use Rattle.dm_law_alike.specs.Alike.{Renaming, KeepsOrder, Stands, under, status_by, Says, SayAll, TwinProcess, TwinLife, TwinNote, TwinPending, Twins, TwinRun, renamed_again}
-use Rattle.dm_law_alike.specs.Closed.{NoneAsked, NoneAskedIn, IsNameless, Leads, LeadsBelow, GoesAlone, EachIsKept, OneGoes, IsClosed, ClosedIsNever}
-use Rattle.dm_law_alike.specs.Laws.{BothWays}
-use Rattle.dm_law_alike.specs.Private.{acts_on, Spared, MaybeSpared, OwnerSpared, MessageSpares, IsSpared}
-use Rattle.dm_law_alike.specs.Services.{execute_labels, executing, trap_labels, called_labels, Executes, is_act, Handles, IsService, Services}
+use Rattle.dm_law_alike.specs.Alike.{Renaming, KeepsOrder, under, status_by, Says, SayAll, TwinProcess, TwinLife, TwinNote, TwinPending, Twins, TwinRun, renamed_again}
+use Rattle.dm_law_alike.specs.Closed.{NoneAsked, NoneAskedIn, IsNameless, GoesAlone, EachIsKept, OneGoes, ClosedIsNever}
+use Rattle.dm_law_alike.specs.Private.{Spared, MaybeSpared, OwnerSpared, MessageSpares, IsSpared}
+use Rattle.dm_law_alike.specs.Services.{execute_labels, trap_labels, called_labels, Executes, is_act, IsService, Services}
 use Rattle.dm_law_alike.proofs.Again.{twins_of_twins}
-use Rattle.dm_law_alike.proofs.Acting.{Acts, act_is, some_is, alive_stays, free_stays}
+use Rattle.dm_law_alike.proofs.Acting.{act_is, some_is, alive_stays, free_stays}
 use Rattle.dm_law_alike.proofs.Alone.{step_spares}
 use Rattle.dm_law_alike.proofs.Firsts.{go_first, own_are_acts}
 use Rattle.dm_law_alike.proofs.Numbers.{some_same}
-use Rattle.dm_law_alike.proofs.Past.{other_by}
-use Rattle.dm_law_alike.proofs.Runs.{told, twin_run}
-use Rattle.dm_law_alike.proofs.Services.{says_act, all_one, execute_say, LeadsOn, can_execute, ready_is}
-use Rattle.dm_law_alike.proofs.Serving.{HandTwin, twin_running}
+use Rattle.dm_law_alike.proofs.Runs.{twin_run}
+use Rattle.dm_law_alike.proofs.Services.{says_act, all_one, execute_say, can_execute, ready_is}
+use Rattle.dm_law_alike.proofs.Serving.{twin_running}
 
 -- a kernel that steps lead to, as far as laws of all of them say
 pub record Kernel (c e : MsgId → ℕ) (s : OneKernel) : Type 0 where
@@ -351,12 +349,12 @@ split [] quantum asks s s1 t p x acts reached runs spared labels leads services 
 split (ls ∷ more) quantum asks s s1 t p x acts reached runs spared labels leads (u, service, rest) =
     elim (service_or quantum s s1 u p x acts ls reached runs spared labels leads service) [
       | inl h ↦ inl (record {
-          others = more;
-          end = t;
-          services = subst (λ v. Services quantum v more t) h.end rest;
-          shorter = omega arith;
-          asked = λ k none. (subst (NoneAsked asks) (sym h.same) none, k);
-        })
+        others = more;
+        end = t;
+        services = subst (λ v. Services quantum v more t) h.end rest;
+        shorter = omega arith;
+        asked = λ k none. (subst (NoneAsked asks) (sym h.same) none, k);
+      })
       | inr h ↦ go_on h (split more quantum asks u h.end t p x acts (reached_all ls s u reached (service_leads quantum s ls u service)) h.through_.runs h.through_.spared labels h.acting rest)
     ]
   where

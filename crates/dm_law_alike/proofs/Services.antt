@@ -1,6 +1,6 @@
 -- Services of twins, and of kernels behind what a process does by itself.
-use Rattle.dm_law_one.proofs.Names.{◌≡◌, ℕ, ◌+◌, ◌==◌, ◌&&◌, Bool, true, false, refl, ap, ◌∙◌, sym, subst, arith, nat_tests, if◌then◌else◌, List, [], ◌∷◌, Option, None, Some, cases_Bool, false≢true, inl, inr, Pid, pid_eq, MsgId, id_eq, PlainMessage, PlainWhat, Label, Reply, Why, Outcome, IsOwnStep, option_map_or, bind, when, replay, instruction, Row}
-use Rattle.dm_law_one.proofs.Names.{Called, Replies, Sends, Waits, Outputs, Ends, PlainProcess, PlainStatus, Ready, Waiting, Moving, Life, Alive, Ended, MoveNote, OneKernel, with_process, with_sent}
+use Rattle.dm_law_one.proofs.Names.{◌≡◌, ℕ, ◌+◌, ◌==◌, ◌&&◌, Bool, true, false, refl, ap, ◌∙◌, sym, subst, arith, nat_tests, if◌then◌else◌, List, [], ◌∷◌, Option, None, Some, Pid, id_eq, Label, Reply, Why, option_map_or, bind, when, replay, instruction, Row}
+use Rattle.dm_law_one.proofs.Names.{Called, Replies, Sends, Waits, Outputs, Ends, PlainProcess, PlainStatus, Ready, Waiting, Moving, Alive, Ended, OneKernel, with_process, with_sent}
 use Rattle.std.specs.Prelude.{zero, suc}
 use Rattle.dm_law_one.proofs.Facts.{none_some}
 use Rattle.dm_law_one.proofs.Equal.{id_eq-same}
@@ -10,11 +10,10 @@ use Rattle.dm_onekernel.specs.Codes.{reply_eq, why_eq, reply_code, why_code}
 use Rattle.dm_onekernel.specs.Calls as calls
 use Rattle.dm_onekernel.specs.Step as kernel
 use Rattle.dm_law_rule.specs.Rule as rule
-use Rattle.dm_law_alike.specs.Alike.{Renaming, KeepsOrder, Stands, Says, SayAll, TwinProcess, TwinLife, TwinNote, Twins}
-use Rattle.dm_law_alike.specs.Services.{called_labels, trap_labels, executing, execute_labels, Executes, is_act, Handles, IsService}
+use Rattle.dm_law_alike.specs.Alike.{Renaming, Says, SayAll, TwinProcess}
+use Rattle.dm_law_alike.specs.Services.{called_labels, trap_labels, executing, execute_labels, is_act}
 use Rattle.dm_law_alike.proofs.Numbers.{some_same, stands_one}
-use Rattle.dm_law_alike.proofs.Calling.{as_twin, twin_is, Both, both, TwinCalled, TwinTrap, NextTwin, twin_next}
-use Rattle.dm_law_alike.proofs.Serving.{HandTwin, twin_running}
+use Rattle.dm_law_alike.proofs.Calling.{TwinCalled, TwinTrap, twin_next}
 
 eq_self : (n : ℕ) → (n == n) ≡ true
 eq_self n = grind (arith, nat_tests)
@@ -77,6 +76,7 @@ row_say r p x y None twin e =
     plain_row (Row.Plain regs bytes) f = refl
     plain_row (Row.Calls number regs) f = absurd (let g : Some (kernel.Calls number (calls.call p (record x { regs = regs }) number)) ≡ None = f in cc)
     plain_row (Row.Faults fault) f = absurd (let g : Some (kernel.Faults fault) ≡ None = f in cc)
+
     plain_too : (row : Row) → kernel.next_row p x row ≡ None → kernel.next_row p y (instruction y.regs y.memory) ≡ None
     plain_too row f = (λ i. kernel.next_row p y (instruction (twin.regs i) (twin.memory i))) ∙ plain_row (instruction x.regs x.memory) e
 
@@ -88,9 +88,11 @@ executing_say : (r : Renaming) (quantum : ℕ) (p : Pid) (x y : PlainProcess) (n
 executing_say r quantum p x y n h =
     let z : PlainProcess = kernel.with_machine x n.machine in
     let w : PlainProcess = kernel.with_machine y n.machine in
-    let twin : TwinProcess (r p) z w = record { regs = refl; memory = refl; links = h.links; status = h.status; stopped = h.stopped; sent = h.sent } in
-    ((refl, refl), say_if r (n.count == quantum) (trap_labels p (kernel.next_row p z (instruction n.machine.regs n.machine.bytes))) (trap_labels p (kernel.next_row p w (instruction n.machine.regs n.machine.bytes)))
-      (row_say r p z w (kernel.next_row p z (instruction n.machine.regs n.machine.bytes)) twin refl))
+    let twin : TwinProcess (r p) z w = record { regs = refl; memory = refl; links = h.links; status = h.status; stopped = h.stopped; sent = h.sent } in (
+      (refl, refl),
+      say_if r (n.count == quantum) (trap_labels p (kernel.next_row p z (instruction n.machine.regs n.machine.bytes))) (trap_labels p (kernel.next_row p w (instruction n.machine.regs n.machine.bytes)))
+          (row_say r p z w (kernel.next_row p z (instruction n.machine.regs n.machine.bytes)) twin refl),
+    )
 
 pub execute_say : (r : Renaming) (quantum : ℕ) (p : Pid) (x y : PlainProcess) → TwinProcess (r p) x y → SayAll r (execute_labels quantum p x) (execute_labels quantum p y)
 execute_say r quantum p x y h =
@@ -170,8 +172,8 @@ can_execute quantum s p x e =
     let z = kernel.with_machine x r.machine in
     let t = kernel.goes_on s p z in
     let first : kernel.step s (Label.Ran p r.count) ≡ Some t =
-        ap (λ o. bind o (λ (v : PlainProcess). bind (kernel.plain_steps r.count (kernel.machine_of v)) (λ (m : kernel.Machine). Some (kernel.goes_on s p (kernel.with_machine v m))))) e
-        ∙ ap (λ o. bind o (λ (m : kernel.Machine). Some (kernel.goes_on s p (kernel.with_machine x m)))) (ran_plain quantum (kernel.machine_of x)) in
+    ap (λ o. bind o (λ (v : PlainProcess). bind (kernel.plain_steps r.count (kernel.machine_of v)) (λ (m : kernel.Machine). Some (kernel.goes_on s p (kernel.with_machine v m))))) e
+    ∙ ap (λ o. bind o (λ (m : kernel.Machine). Some (kernel.goes_on s p (kernel.with_machine x m)))) (ran_plain quantum (kernel.machine_of x)) in
     let next : kernel.next_trap t p ≡ kernel.next_row p z (instruction r.machine.regs r.machine.bytes) = ap (λ o. bind o (λ (v : PlainProcess). kernel.next_row p v (instruction v.regs v.memory))) (running_on s p x r.machine e) in
     let more = maybe_leads t p (r.count == quantum) (kernel.next_row p z (instruction r.machine.regs r.machine.bytes)) (λ a f. next ∙ f) in
     record { end = more.end; is = ap (λ o. bind o (λ (v : OneKernel). replay v (if r.count == quantum then [] else trap_labels p (kernel.next_row p z (instruction r.machine.regs r.machine.bytes))))) first ∙ more.is }
