@@ -7,7 +7,6 @@ mod ByRule
 mod NoWords
 mod Pieces
 mod Sound
-mod SoFar
 mod RunsChecked
 mod DrillsChecked
 mod OwnDrilled
