@@ -6,6 +6,8 @@ ghost use Rattle.dm_law_moves.specs.Counts.{CountsKept, CountsStay};
 ghost use Rattle.dm_law_moves.specs.Ends.{EndsAlways};
 ghost use Rattle.dm_law_moves.specs.Lists.{ListsAlways, ListsForTheirs};
 ghost use Rattle.dm_law_moves.specs.Numbers.{NumbersAlways};
+ghost use Rattle.dm_law_moves.specs.Fair.{NobodyStarves};
+ghost use Rattle.dm_law_moves.specs.LetterLines.{LettersStandInLines};
 ghost use Rattle.dm_law_moves.specs.LifeLines.{LivesAreSaid};
 ghost use Rattle.dm_law_moves.specs.Forwards.{ForwardsTell, RequestsTell};
 ghost use Rattle.dm_law_moves.specs.Links.{CountsPromise};
@@ -222,6 +224,12 @@ pub fn protocol_moves()
     ensures { ProtocolMoves }
 {}
 
+/// Wherever the rule leads from a boot file, each message that the kernel without machines holds stands in just one line at the end, of a
+/// queue, of what is held back, of an inbox or of a stream, and there once; and no other stands in one, but a machine's own kernel's.
+pub fn letters_stand_in_lines()
+    ensures { LettersStandInLines }
+{}
+
 /// Wherever the rule leads from a boot file: among the lines that are said there at the end, each process that was ever made has
 /// exactly one that says whether it lives. It says of one that has ended why, and of a living one the machine that it is on, leaves or
 /// comes to, and how it stands there. A process that was never made has none.
@@ -270,4 +278,10 @@ pub fn answers_are_so()
 /// lacks room or is called off, are said on the machine that the request named which its last step 1 followed, or the directive.
 pub fn moves_as_named()
     ensures { MovesAsNamed }
+{}
+
+/// From wherever the rule has come: while a process stands in the ring of a machine and isn't served, fewer turns of that machine come with
+/// an empty inbox at which it could be served than processes stand in the ring there.
+pub fn nobody_starves()
+    ensures { NobodyStarves }
 {}

@@ -42,7 +42,7 @@ use Rattle.dm_program.proofs.DrillsChecked.{each_drawn, from_nothing}
 use Rattle.dm_program.proofs.Runs.Fits.{directives_fit}
 use Rattle.dm_program.specs.OwnLaws.{OwnDrillsAreFor, OwnDrillsCheck, SchedulesAreTaken}
 use Rattle.dm_program.specs.Printed.{by_rule}
-use Rattle.dm_kernel.proofs.LawfulStart.{few_machines}
+use Rattle.dm_onekernel.proofs.Lawful.{few_machines}
 
 -- a process is at home on one of so many machines, and its number is one that a schedule can have
 abbrev IsNamed : ℕ → Pid → Type 0
