@@ -1,5 +1,5 @@
 -- Walks that find on which machines processes ever have a bar.
-use Rattle.dm_chart.proofs.Names.{◌≡◌, ℕ, ◌+◌, ◌<◌, ◌≤◌, List, length, get_or, drop, ap, refl, sym, ◌∙◌, add-one, drop_of_length-le, Pid, Line, Spot, role_of, next_spot, count_by}
+use Rattle.dm_chart.proofs.Names.{◌≡◌, ℕ, ◌+◌, ◌<◌, ◌≤◌, List, length, get_or, drop, ap, refl, sym, add-one, drop_of_length-le, Pid, Line, Spot, role_of, next_spot, count_by}
 use Rattle.std.proofs.Common.{fold}
 use Rattle.dm_chart.specs.declared.stay.Stay.{Stay}
 use Rattle.dm_chart.specs.Stays.{greater, is_on, stays_behind, with_role, with_start}
