@@ -1,22 +1,11 @@
 -- What `run` writes, `check` finds good.
-use Rattle.dm_commands.proofs.Names.{◌≡◌, ◌⊎◌, inl, inr, ℕ, Bool, true, false, List, [], ◌∷◌, ◌++◌, length, ap, sym, subst, ◌∙◌, All, All-cons, All-head, All-nil, All-tail, Option, Some, Boot, Directive, appended, good_verdict, Status, HasTrace, AcceptsFiles}
-use Rattle.dm_commands.proofs.Names.{SaysBoot, SaysDirectives, IsWant}
-use Rattle.std.proofs.lemmas.List.{append-nil}
-use Rattle.dm_schedule.specs.declared.Step.{Step}
+use Rattle.dm_program.proofs.Names.{◌≡◌, ◌⊎◌, inl, inr, ℕ, Bool, true, false, List, [], ◌∷◌, ◌++◌, length, ap, sym, subst, ◌∙◌, Option, Some, All, All-cons, All-head, All-nil, All-tail, Boot, Directive, appended, good_verdict, Status}
+use Rattle.dm_program.proofs.Names.{HasTrace, AcceptsFiles, SaysBoot, SaysDirectives, IsWant, append-nil, Step, Line, IsGood, IsWhole, RunWears, beginnings_open, runs_ended, HasHome, IsHome, verdict, NeverFails, Outside, Accepts, GivesGood}
+use Rattle.dm_program.proofs.Names.{IsKept, RunsCheck, SaysItIs, WornRunsCheck, by_rule}
 use Rattle.dm_schedule.specs.declared.Step.TheVariants as step
 use Rattle.dm_schedule.specs.declared.Directive.TheVariants as directive
-use Rattle.dm_line.specs.declared.line.Line.{Line}
-use Rattle.dm_law_mirror.specs.Run.{IsGood}
-use Rattle.dm_run.specs.Printed.{IsWhole, RunWears}
-use Rattle.dm_law_runs.proofs.Traces.Runs.{beginnings_open, runs_ended}
-use Rattle.dm_law_runs.specs.Traces.Laws.{HasHome, IsHome}
-use Rattle.dm_law_runs.specs.Traces.Verdict.{verdict}
-use Rattle.dm_commands.proofs.Schedules as schedules
-use Rattle.dm_commands.specs.Outside.{NeverFails, Outside}
+use Rattle.dm_front.proofs.Schedules as schedules
 use Rattle.dm_program.proofs.Runs.Fits.{directives_fit}
-use Rattle.dm_program.specs.Decided.{Accepts, GivesGood}
-use Rattle.dm_program.specs.Laws.{IsKept, RunsCheck, SaysItIs, WornRunsCheck}
-use Rattle.dm_program.specs.Printed.{by_rule}
 
 step_home : (machines : ℕ) (e : Step) → schedules.IsHome machines e → IsHome machines e
 step_home machines (step.Turn m) h = h

@@ -19,10 +19,11 @@ use Rattle.dm_ending.specs.declared.status.Status.{Status}
 use Rattle.dm_ending.specs.declared.status.Status.TheVariants.{Done, Worn}
 use Rattle.dm_words.specs.DrillWords.{IsWithin}
 use Rattle.dm_ending.specs.Status.{IsWant}
-use Rattle.dm_commands.specs.Checks.{good_line, most_trace}
-use Rattle.dm_commands.specs.Drills.{DrilledSays, SaysDrill, directives_of_drill}
-use Rattle.dm_commands.specs.Outside.{NeverFails, Outside}
-use Rattle.dm_commands.specs.Runs.{RunSays, SaysRun}
+use Rattle.dm_cmd_check.specs.Checks.{good_line, most_trace}
+use Rattle.dm_cmd_count.specs.Drills.{DrilledSays, SaysDrill, directives_of_drill}
+use Rattle.dm_front.specs.Outside.{NeverFails, Outside}
+use Rattle.dm_cmd_run.specs.Runs.{RunSays}
+use Rattle.dm_front.specs.Runs.{SaysRun}
 use Rattle.dm_program.specs.Decided.{Accepts}
 use Rattle.dm_program.specs.Printed.{by_rule}
 
