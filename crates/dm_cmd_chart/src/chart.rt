@@ -10,10 +10,10 @@ ghost use Rattle.dm_cmd_chart.specs.Charts.{ChartMeets, ChartSays, number_or, pa
 ghost use Rattle.dm_front.specs.Meets.{MeetsSink};
 ghost use Rattle.dm_front.specs.Outside.{around, shelf_around, sink_around};
 
-use dm_front::inputs::{Inputs, read_files};
-use dm_front::write::ended;
 use dm_chart::{ALL_GROUPS, Part};
 use dm_ending::status::Status;
+use dm_front::inputs::{Inputs, read_files};
+use dm_front::write::ended;
 use dm_outside::{Shelf, Sink};
 use dm_run::{Drawn, draw_run, write_all};
 use dm_schedule::MOST_SCHEDULE;

@@ -51,12 +51,7 @@ pub fn drill_drawn<F: Shelf, K: Sink>(
 
 /// Draws a system and its directives, does them, writes the groups where that is asked for, and then the summary. The world is
 /// left in `world`, which is empty where there was none.
-fn drill<K: Sink>(
-    alloc: Global,
-    drill: &Drill,
-    out: &mut K,
-    world: &mut Option<World>,
-) -> Status
+fn drill<K: Sink>(alloc: Global, drill: &Drill, out: &mut K, world: &mut Option<World>) -> Status
     requires law { RunsGo }
     requires within { IsWithin drill.now }
     ensures meets { DrillMeets (DrilledSays by_world) drill.now (sink_around K.told K.faults K.last_failed out.old out.new) world.new result }

@@ -35,11 +35,7 @@ pub fn say<K: Sink>(told: &Told, out: &mut K) -> Status
 }
 
 /// What is said of the boot file of this name.
-pub fn tell_boot<F: Shelf>(
-    alloc: Global,
-    name: &str,
-    shelf: &mut F,
-) -> Result<BootTold, Status>
+pub fn tell_boot<F: Shelf>(alloc: Global, name: &str, shelf: &mut F) -> Result<BootTold, Status>
     ensures tells { IfOk result (λ t. TellsRead (F.told shelf.old) name.now t) }
     ensures valid { IfOk result IsToldValid }
     ensures none { IfErr result (λ s. NoBoot (F.told shelf.old) name.now (F.faults shelf.old) (F.faults shelf.new) s) }
