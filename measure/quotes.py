@@ -1,10 +1,10 @@
 #!/usr/bin/env python3
-"""quotes.py: whether the printed lines that docs/MIGRATION.md quotes are those of the example that it tells; and whether each answer of
-`explore` that a page quotes (README.md, those of docs/) is that of a run of crates/dm_rows/data.
+"""quotes.py: whether the printed lines that docs/MIGRATION.md and other pages of docs/ quote are those of the example that they tell; and
+whether each answer of `explore` that a page quotes (README.md, those of docs/) is that of a run of crates/dm_rows/data.
 
 A part of the page that tells a run has a heading that says `from its printed lines`, and names the run by `examples/NAME.toml`. What stands in backticks in the first column of its
 table are lines of examples/NAME.out, and in one row they stand behind one another there, perhaps with others between; so do the
-first lines of the rows. Prints each that isn't so with its place; the status is 1 if there is one, or if nothing is quoted."""
+first lines of the rows. Prints each that isn't so with its place; the status is 1 if there is one, or if docs/MIGRATION.md quotes nothing."""
 import glob, os, re, sys
 
 TOP = os.path.normpath(os.path.join(os.path.dirname(os.path.abspath(__file__)), ".."))
@@ -21,7 +21,7 @@ def parts(page):
     """(name of the example, [(number of the line, quoted lines)]) of each part that tells a run."""
     found = []
     for number, line in enumerate(page.split("\n"), 1):
-        if line.startswith("# "):
+        if re.match("##? ", line):
             found.append((None if line.endswith("from its printed lines") else "", []))
         named = re.search(r"examples/(\w+)\.toml", line)
         if found and found[-1][0] is None and named:
@@ -43,18 +43,18 @@ def behind(lines, quoted, at):
     return first, at
 
 
-def faults(page):
+def faults(path):
     count = 0
-    for name, rows in parts(page):
+    for name, rows in parts(read(path)):
         lines, at = read(f"examples/{name}.out").split("\n"), 0
         for number, quoted in rows:
             count += len(quoted)
             found = behind(lines, quoted, at)
             if isinstance(found, str):
-                yield f"{PAGE}:{number}: examples/{name}.out has no line there: {found}"
+                yield f"{path}:{number}: examples/{name}.out has no line there: {found}"
             else:
                 at = found[0] + 1
-    if not count:
+    if not count and path == PAGE:
         yield f"{PAGE} quotes no lines any more"
 
 
@@ -73,8 +73,8 @@ def wrong_answers():
 
 
 def main():
-    found = list(faults(read(PAGE))) + list(wrong_answers())
-    print(*found or ["what docs/MIGRATION.md quotes is printed, in that order, and each answer of `explore` is a run's"], sep="\n")
+    found = [fault for path in named("docs/*.md") for fault in faults(path)] + list(wrong_answers())
+    print(*found or ["what docs/MIGRATION.md and other pages quote is printed, in that order, and each answer of `explore` is a run's"], sep="\n")
     return bool(found)
 
 

@@ -12,6 +12,75 @@ const ANSWERS = ["block", "written", "gone"];
 
 const SERVER_NAMES = { "0.1": "switchboard", "0.2": "process manager" };
 
+const MACHINES = 16; // no system has more
+
+// The words behind the first one of each line: a machine, a process, a message, a number, a kind, the sort of a packet.
+const FORMS = {
+    turn: "M", tick: "M", deliver: "M M N", migrate: "P M", calloff: "P M",
+    idle: "M", none: "", away: "", nochild: "P", ran: "P N", call: "P N N", send: "P I", wait: "P", out: "P N", end: "P N",
+    receive: "P I", refuse: "P I N", put: "M M I K P", packet: "M M N S N", taken: "M M N", old: "M M N", early: "M M N", acked: "M M N",
+    resent: "M N", queued: "I", held: "I", forwarded: "I M", dropped: "I", served: "I", gone: "I", took: "I", created: "I P",
+    nospace: "I N N", updated: "I N", step: "N P", lacks: "P N N", stays: "P", called: "P N", nocall: "P", stale: "I", buried: "I N",
+    here: "I", nomove: "I", asked: "I", answered: "I N", proto: "I",
+};
+const LONGER_STEP = "N P N"; // step 6 says how many messages go on
+const WORDS = {
+    M: [/^\d+$/, "a machine"],
+    P: [/^\d+\.\d+$/, "a process"],
+    I: [/^\d+\.\d+#\d+!?$/, "a message"],
+    N: [/^\d+$/, "a number"],
+    K: [/^[a-z]+$/, "a kind of message"],
+    S: [/^(data|ack)$/, "data or ack"],
+};
+
+// A line that can't be folded, and why; where it stands in its group is told on the way.
+class Unfolded extends Error {}
+
+// The words of a line, which are as its form says.
+function wordsOf(state, line) {
+    const words = line.split(" ");
+    if (!Object.hasOwn(FORMS, words[0])) {
+        throw new Unfolded("no such line");
+    }
+    const form = (line.startsWith("step 6 ") ? LONGER_STEP : FORMS[words[0]]).split(" ").filter((each) => each !== "");
+    if (words.length - 1 !== form.length) {
+        throw new Unfolded(`the line ${words[0]} has ${form.length} more words, not ${words.length - 1}`);
+    }
+    form.forEach((sort, place) => {
+        const word = words[place + 1];
+        if (!WORDS[sort][0].test(word)) {
+            throw new Unfolded(`${WORDS[sort][1]} must stand where ${word === "" ? "nothing" : word} stands`);
+        }
+        if (sort === "M" && Number(word) >= state.machines.length) {
+            throw new Unfolded(`there is no machine ${word}`);
+        }
+    });
+    return words;
+}
+
+function processOf(state, pid) {
+    if (state.processes[pid] === undefined) {
+        throw new Unfolded(`there is no process ${pid}`);
+    }
+    return state.processes[pid];
+}
+
+function messageOf(state, id) {
+    if (state.messages[id] === undefined) {
+        throw new Unfolded(`no line before has put ${id}`);
+    }
+    return state.messages[id];
+}
+
+// What a machine knows of a process; it must be one of these.
+function knownOf(state, m, pid, ...are) {
+    const known = state.machines[m].known[pid];
+    if (known === undefined || (are.length > 0 && !are.includes(known.is))) {
+        throw new Unfolded(`on machine ${m} process ${pid} is ${known === undefined ? "unknown" : known.is}`);
+    }
+    return known;
+}
+
 function homeOf(pid) {
     return Number(pid.slice(0, pid.indexOf(".")));
 }
@@ -28,7 +97,8 @@ function byName(a, b) {
     return homeA - homeB || numberA - numberB;
 }
 
-// Cuts a text into groups, each its lines with its head first, and the lines at the end.
+// Cuts a text into groups, each its lines with its head first, and the lines at the end. A text that begins with another line than a
+// head has none: that line strays.
 function parse(text) {
     const heads = ["turn", "tick", "deliver", "migrate", "calloff"];
     const groups = [];
@@ -43,12 +113,18 @@ function parse(text) {
         } else if (heads.includes(line.split(" ", 1)[0])) {
             groups.push([line]);
         } else if (groups.length === 0) {
-            throw new Error(`no head of a group: ${line}`);
+            return { groups, ends, stray: line };
         } else {
             groups[groups.length - 1].push(line);
         }
     }
-    return { groups, ends };
+    return { groups, ends, stray: null };
+}
+
+// The number of a text's line that is the so-manieth which isn't empty.
+function lineNumber(text, count) {
+    let left = count;
+    return text.split("\n").findIndex((line) => line !== "" && left-- === 0) + 1;
 }
 
 // The names that a boot file gives its processes: by machine, in the order of the file, numbered from 3.
@@ -90,14 +166,15 @@ function atStart(groups, ends, names) {
             found.add(words[1]);
         }
     }
-    return [...found].filter((pid) => !made.has(pid) && !(pid in SERVER_NAMES)).sort(byName);
+    return [...found].filter((pid) => /^\d+\.\d+$/.test(pid) && homeOf(pid) < MACHINES && !made.has(pid) && !(pid in SERVER_NAMES)).sort(byName);
 }
 
 // How many machines the lines speak of.
 function machineCount(groups, ends, pids) {
     let most = 0;
-    const see = (number) => {
-        most = Math.max(most, Number(number));
+    const see = (word) => {
+        const number = Number(word);
+        most = Number.isInteger(number) && number < MACHINES ? Math.max(most, number) : most;
     };
     for (const line of groups.flat().concat(ends ?? [])) {
         const words = line.split(" ");
@@ -132,6 +209,9 @@ function firstState(machines, pids) {
 }
 
 function makeProcess(state, pid, at, status) {
+    if (state.machines[at] === undefined) {
+        throw new Unfolded(`there is no machine ${at}`);
+    }
     state.processes[pid] = { at, place: HERE, status, stopped: false, ended: null, queue: [], said: "" };
     state.machines[at].known[pid] = { is: HERE };
 }
@@ -152,11 +232,19 @@ function without(list, id) {
     return true;
 }
 
-// One group more.
+// One group more. Where a line of it can't be folded, the error says which, and why.
 function foldGroup(state, lines) {
-    const group = beginGroup(state, lines[0].split(" "));
-    for (const line of lines.slice(1)) {
-        foldLine(state, group, line.split(" "));
+    let place = 0;
+    try {
+        const group = beginGroup(state, wordsOf(state, lines[0]));
+        for (place = 1; place < lines.length; place++) {
+            const words = wordsOf(state, lines[place]);
+            LINES[words[0]](state, group, words);
+        }
+    } catch (fault) {
+        fault.group = state.groups;
+        fault.place = place;
+        throw fault;
     }
     state.groups += 1;
 }
@@ -181,17 +269,17 @@ function beginGroup(state, words) {
     return group;
 }
 
-function foldLine(state, group, words) {
-    const rule = LINES[words[0]];
-    if (rule === undefined) {
-        throw new Error(`no such line: ${words.join(" ")}`);
+// The message that a turn handles.
+function handled(group) {
+    if (group.message === null) {
+        throw new Unfolded("this group handles no message");
     }
-    rule(state, group, words);
+    return group.message;
 }
 
 // What a process said last, and what it does now.
 function speaks(state, group, pid, status, said) {
-    const process = state.processes[pid];
+    const process = processOf(state, pid);
     group.spoke = pid;
     process.status = status;
     process.said = said;
@@ -203,11 +291,11 @@ function goesOn(state, m, pid) {
     machine.inbox.unshift(...(machine.held[pid] ?? []));
     delete machine.held[pid];
     machine.known[pid] = { is: HERE };
-    Object.assign(state.processes[pid], { at: m, place: HERE });
+    Object.assign(processOf(state, pid), { at: m, place: HERE });
 }
 
 function ends(state, group, pid, why) {
-    const process = state.processes[pid];
+    const process = processOf(state, pid);
     Object.assign(process, { ended: why, status: "ended" });
     delete state.machines[group.acts].known[pid];
     group.ended = pid;
@@ -216,26 +304,29 @@ function ends(state, group, pid, why) {
 
 const STEPS = {
     1(state, group, pid) {
+        processOf(state, pid).place = LEAVING;
         state.machines[group.acts].known[pid] = { is: LEAVING, to: null };
-        state.processes[pid].place = LEAVING;
     },
     2() {},
     3(state, group, pid) {
-        state.machines[group.acts].known[pid] = { is: ARRIVING, from: homeOf(senderOf(group.message)) };
+        state.machines[group.acts].known[pid] = { is: ARRIVING, from: homeOf(senderOf(handled(group))) };
     },
     4() {},
     5(state, group, pid) {
-        state.machines[group.acts].known[pid].whole = true;
+        knownOf(state, group.acts, pid, ARRIVING).whole = true;
     },
     6(state, group, pid) {
-        state.processes[pid].queue = [];
+        processOf(state, pid).queue = [];
         delete state.machines[group.acts].held[pid];
     },
     7(state, group, pid) {
-        const known = state.machines[group.acts].known;
-        known[pid] = { is: GONE_ON, to: known[pid].to };
+        const { to } = knownOf(state, group.acts, pid, LEAVING);
+        if (to === null) {
+            throw new Unfolded(`no machine was asked to take ${pid}`);
+        }
         // until step 8 it stands where it comes
-        Object.assign(state.processes[pid], { at: known[pid].to, place: ARRIVING });
+        Object.assign(processOf(state, pid), { at: to, place: ARRIVING });
+        state.machines[group.acts].known[pid] = { is: GONE_ON, to };
     },
     8(state, group, pid) {
         goesOn(state, group.acts, pid);
@@ -265,7 +356,7 @@ const LINES = {
     gone() {},
     forwarded() {},
     buried(state, group) {
-        const about = state.messages[group.message].about;
+        const { about } = messageOf(state, handled(group));
         group.about = about;
         delete state.machines[group.acts].known[about];
     },
@@ -286,7 +377,7 @@ const LINES = {
         state.outputs.push([state.groups + 1, pid, Number(word)]);
     },
     receive(state, group, [, pid, id]) {
-        without(state.processes[pid].queue, id);
+        without(processOf(state, pid).queue, id);
         speaks(state, group, pid, "ready", `received ${id}`);
     },
     refuse(state, group, [, pid, id, code]) {
@@ -305,26 +396,36 @@ const LINES = {
             pairOf(state, a, b).given.push(id);
         }
         if (kind === "ask") {
-            state.machines[Number(a)].known[group.moves].to = Number(b);
+            knownOf(state, Number(a), group.moves, LEAVING).to = Number(b);
         }
         if (REQUESTS.includes(kind) && senderOf(id) in state.processes && !id.endsWith("!") && senderOf(id) === group.spoke) {
             state.processes[senderOf(id)].status = "moving data";
         }
     },
     packet(state, group, [, a, b, number, kind, count]) {
-        pairOf(state, a, b).wire[Number(number)] = { kind, count: Number(count), delivered: 0 };
+        const { wire, given } = pairOf(state, a, b);
+        if (Number(number) !== wire.length) {
+            throw new Unfolded(`the next packet from ${a} to ${b} is number ${wire.length}`);
+        }
+        if (kind === "data" && Number(count) >= given.length) {
+            throw new Unfolded(`no message ${count} was put from ${a} to ${b}`);
+        }
+        wire.push({ kind, count: Number(count), delivered: 0 });
     },
     taken(state, group, [, a, b, number]) {
         const pair = pairOf(state, a, b);
+        if (Number(number) >= pair.given.length) {
+            throw new Unfolded(`no message ${number} was put from ${a} to ${b}`);
+        }
         state.machines[Number(b)].inbox.push(pair.given[Number(number)]);
         pair.taken = Number(number) + 1;
     },
     queued(state, group, [, id]) {
-        state.processes[state.messages[id].to].queue.push(id);
+        processOf(state, messageOf(state, id).to).queue.push(id);
     },
     held(state, group, [, id]) {
         const { held } = state.machines[group.acts];
-        const { to } = state.messages[id];
+        const { to } = messageOf(state, id);
         held[to] = held[to] ?? [];
         held[to].push(id);
     },
@@ -335,7 +436,7 @@ const LINES = {
         }
     },
     served(state, group, [, id]) {
-        const { kind, to } = state.messages[id];
+        const { kind, to } = messageOf(state, id);
         const process = state.processes[to];
         if (process === undefined) {
             return;
@@ -355,6 +456,9 @@ const LINES = {
     },
     step(state, group, [, number, pid]) {
         group.moves = pid;
+        if (!Object.hasOwn(STEPS, number)) {
+            throw new Unfolded(`there is no step ${number}`);
+        }
         STEPS[number](state, group, pid);
     },
     stays(state, group, [, pid]) {
@@ -362,8 +466,9 @@ const LINES = {
     },
     called(state, group, [, pid]) {
         const machine = state.machines[group.acts];
+        const { from } = knownOf(state, group.acts, pid, ARRIVING);
         delete machine.held[pid];
-        machine.known[pid] = { is: GONE_ON, to: machine.known[pid].from };
+        machine.known[pid] = { is: GONE_ON, to: from };
     },
 };
 

@@ -5,17 +5,16 @@ const EVERY = 256; // a copy of the state is kept at each such group, to go back
 const AROUND = 5; // groups shown before and behind the one that is looked at
 const LARGE = 40; // no list on the page is longer
 
-const trace = parseText("trace");
+const MANY = 9; // with more machines they stand closer, so that sixteen are on one screen
+const LONGEST = 95; // of a line that is at fault so much is shown
+
+const trace = parse(text("trace"));
 const names = namesOf(text("boot"));
 const pids = atStart(trace.groups, trace.ends, names);
-const page = { at: 0, state: null, kept: [], followed: "", words: "", found: null };
+const page = { at: 0, state: null, kept: [], followed: "", words: "", found: null, fault: null };
 
 function text(id) {
     return document.getElementById(id).textContent;
-}
-
-function parseText(id) {
-    return parse(text(id));
 }
 
 function copied(state) {
@@ -36,6 +35,29 @@ function stateAt(count) {
         }
     }
     return state;
+}
+
+// Folds all groups once. Where a line can't be folded the page has the lines before it, and tells it.
+function foldAll() {
+    if (trace.stray !== null) {
+        page.fault = { line: trace.stray, number: lineNumber(text("trace"), 0), why: "no head of a group stands before it" };
+        return;
+    }
+    try {
+        page.state = stateAt(trace.groups.length);
+    } catch (fault) {
+        const { group, place } = fault;
+        const before = trace.groups.slice(0, group).reduce((sum, lines) => sum + lines.length, place);
+        const why = fault instanceof Unfolded ? fault.message : `this page can't fold it (${fault.message})`;
+        page.fault = { line: trace.groups[group][place], number: lineNumber(text("trace"), before), why };
+        trace.groups[group] = trace.groups[group].slice(0, place);
+        trace.groups.length = group + (place > 0 ? 1 : 0);
+        trace.ends = null;
+    }
+}
+
+function shortened(line) {
+    return line.length > LONGEST ? `${line.slice(0, LONGEST)}..` : line;
 }
 
 // An element of a class with what stands in it.
@@ -193,7 +215,7 @@ function outputs() {
     }
     const rows = Object.keys(said).sort(byName).map((pid) => {
         const words = said[pid];
-        const shown = words.every((word) => word >= 32 && word < 127) ? ` "${String.fromCharCode(...words)}"` : "";
+        const shown = words.every((word) => word >= 32 && word < 127) ? ` = "${String.fromCharCode(...words)}"` : "";
         return follows(made("div", "", `${titled(pid)}: ${words.slice(-LARGE).join(" ")}${shown}`), pid);
     });
     return rows.length > 0 ? rows : ["nothing"];
@@ -215,6 +237,9 @@ function showLines() {
     for (let g = from; g < to; g++) {
         parts.push(groupLines(g));
     }
+    if (to === trace.groups.length && page.fault !== null) {
+        parts.push(made("div", "group fault", shortened(page.fault.line)));
+    }
     if (to === trace.groups.length && trace.ends !== null) {
         parts.push(made("div", "group", "final, and where everything stands"));
     }
@@ -234,10 +259,16 @@ function groupLines(g) {
     return part;
 }
 
-// Whether what was folded is what the lines at the end say.
+// A line that couldn't be folded; else whether what was folded is what the lines at the end say.
 function showCheck() {
     const place = byId("check");
     if (page.at < trace.groups.length) {
+        return;
+    }
+    if (page.fault !== null || (trace.groups.length === 0 && trace.ends === null)) {
+        const { number, line, why } = page.fault ?? {};
+        place.textContent = page.fault === null ? "this file has no group: there is nothing to show" : `line ${number}: ${shortened(line)}\n${why}: what stands from here on isn't shown`;
+        place.className = "differs";
         return;
     }
     if (trace.ends === null) {
@@ -246,7 +277,8 @@ function showCheck() {
         return;
     }
     const wrong = differences(page.state, trace.ends);
-    place.textContent = wrong.length === 0 ? "at its end this page agrees with the lines at the end" : `this page is wrong: at its end the lines say something else\n${wrong.join("\n")}`;
+    const unnamed = Object.keys(names).length > 0 ? "; names of processes are those of the boot file, with which no line was compared" : "";
+    place.textContent = wrong.length === 0 ? `at its end this page agrees with the lines at the end${unnamed}` : `this page is wrong: at its end the lines say something else\n${wrong.join("\n")}`;
     place.className = wrong.length === 0 ? "agrees" : "differs";
 }
 
@@ -308,6 +340,8 @@ const LOOKS = ["ready", "waiting", "moving data", "server", "stopped", "leaving"
 
 function begin() {
     page.kept = [firstState(machineCount(trace.groups, trace.ends, pids), pids)];
+    foldAll();
+    byId("machines").classList.toggle("many", page.kept[0].machines.length > MANY);
     byId("slider").max = trace.groups.length;
     byId("slider").addEventListener("input", (event) => go(Number(event.target.value)));
     byId("first").addEventListener("click", () => go(0));

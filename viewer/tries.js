@@ -40,6 +40,10 @@ function triesKeys(tried, must) {
     must(at(tried) === Math.min(1, all), "the right arrow goes a group on");
     press(tried, "ArrowLeft");
     must(at(tried) === 0, "the left arrow goes a group back");
+    slide(tried, Math.min(3, all));
+    press(tried, "ArrowLeft");
+    must(at(tried) === Math.max(0, Math.min(3, all) - 1), "the left arrow goes one group back");
+    press(tried, "Home");
     press(tried, "ArrowLeft");
     must(at(tried) === 0, "there is nothing before the beginning");
     press(tried, "ArrowRight", true);
@@ -121,7 +125,7 @@ function triesEnd(tried, must) {
     must(packets === Object.values(open).reduce((sum, each) => sum + Math.min(each.size, LARGE), 0), "the packets that were never delivered are shown");
     const outputs = tried.document.getElementById("outputs").textContent;
     for (const words of Object.values(said)) {
-        const letters = words.every((word) => word >= 32 && word < 127) ? ` "${words.map((word) => String.fromCharCode(word)).join("")}"` : "";
+        const letters = words.every((word) => word >= 32 && word < 127) ? ` = "${words.map((word) => String.fromCharCode(word)).join("")}"` : "";
         must(outputs.includes(`: ${words.slice(-LARGE).join(" ")}${letters}`), "what a process put out is shown");
     }
     const rows = [...tried.document.querySelectorAll("#system .row .word")].map((word) => word.textContent);
@@ -284,8 +288,27 @@ function triesFollow(tried, must) {
     must(tried.document.querySelectorAll(".followed").length === 0, "the button lets it go");
 }
 
+// A page of lines that can't all be folded: it says what is due, if that is known, and shows what stands before.
+function triesFault(tried, must, { words, groups }) {
+    const check = tried.document.getElementById("check");
+    if (words !== undefined) {
+        must(check.textContent === words, `it says ${check.textContent}, where ${words} is due`);
+        must(check.classList.contains("differs"), "it says so in red");
+        must(count(tried) === groups, `it has ${count(tried)} groups, not ${groups}`);
+    }
+    must(check.textContent !== "", "it says something at its head");
+    must(tried.document.querySelectorAll("#machines .machine").length > 0, "it shows machines");
+    if (tried.faults.length === 0) {
+        [triesKeys, triesButtons, triesBack, triesFollow].forEach((each) => each(tried, must));
+    }
+    press(tried, "End");
+    const shown = tried.document.querySelector("#lines .fault")?.textContent;
+    must(words === undefined || !words.startsWith("line ") || words.includes(`: ${shown}\n`), "the line at fault stands behind the others");
+    must(tried.faults.length === 0, `its scripts are at fault: ${tried.faults}`);
+}
+
 // What is wrong with a page, or nothing.
-function tries({ html, wrong }) {
+function tries({ html, wrong, told }) {
     const tried = opened(html);
     const missed = [];
     const must = (holds, words) => holds || missed.push(words);
@@ -293,6 +316,8 @@ function tries({ html, wrong }) {
     const good = tried.faults.length === 0 && !check.classList.contains("differs");
     if (wrong) {
         must(!good, "this page is wrong, and doesn't say so");
+    } else if (told !== null) {
+        triesFault(tried, must, told);
     } else {
         must(tried.faults.length === 0, `its scripts are at fault: ${tried.faults}`);
         must(check.classList.contains("agrees") || check.textContent.startsWith("no lines at the end"), check.textContent);
@@ -306,11 +331,13 @@ function tries({ html, wrong }) {
 }
 
 const said = [];
+const amounts = [0, 0, 0]; // good ones, those whose lines are at fault, those that are wrong on purpose
 for (const each of PAGES) {
     for (const words of tries(each)) {
-        said.push(`${each.name}: ${words}`);
+        said.push(`${each.name}: ${words}`.replaceAll("\n", " / "));
     }
+    amounts[each.wrong ? 2 : each.told === null ? 0 : 1] += 1;
 }
-const amount = `${PAGES.filter((each) => !each.wrong).length} pages, and ${PAGES.filter((each) => each.wrong).length} that are wrong on purpose`;
+const amount = `${amounts[0]} pages, ${amounts[1]} whose lines are at fault, and ${amounts[2]} that are wrong on purpose`;
 said.push(said.length === 0 ? `${amount}: all do as they should` : `${amount}: ${said.length} faults`);
 document.getElementById("result").textContent = said.join("\n");

@@ -19,6 +19,9 @@ use dm_onekernel::boot::BootProcess;
 use std::alloc::Global;
 use toml::Value;
 
+/// No process has more links: so many have room from the first on.
+const MOST_LINKS: usize = 128;
+
 /// A link as its table says, and whether the table is sound: it leads somewhere, and its numbers are within their limits.
 #[derive(Drop)]
 struct ReadLink {
@@ -52,7 +55,7 @@ pub fn links_of(
     ensures sound { IfOk result (λ read. read.sound ≡ has_sound_links (view document.now.top.now) (view process.now)) }
 {
     let tables = items_at(process, "links");
-    let mut links = with_room(alloc, tables.len())?;
+    let mut links = with_room(alloc, tables.len().min(MOST_LINKS))?;
     let mut sound = true;
     for table in tables {
         let read = link_of(document, starts, table);

@@ -10,7 +10,7 @@ use crate::document::Document;
 use crate::links::links_of;
 use crate::tables::{items_at, text_at};
 use dm_lists::Items;
-use dm_memory::{NoMemory, from_slice, push, with_room};
+use dm_memory::{NoMemory, from_slice, push, with_room_for};
 use dm_onekernel::boot::BootProcess;
 use std::alloc::Global;
 use toml::Value;
@@ -35,7 +35,7 @@ pub fn processes_of(
         linked_all (view document.now.top.now) starts.now starts.now (process_tables (view document.now.top.now))) }
 {
     let tables = items_at(document.top, "process");
-    let mut processes = with_room(alloc, starts.len())?;
+    let mut processes = with_room_for(alloc, starts)?;
     let mut sound = true;
     for (i, start) in starts.iter().enumerate() {
         let table = &tables[i];

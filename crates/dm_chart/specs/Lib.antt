@@ -5,6 +5,7 @@ pub mod Behind
 pub mod Styles
 pub mod Notes
 pub mod Shapes
+pub mod Left
 pub mod Xml
 pub mod Written
 pub mod Measures

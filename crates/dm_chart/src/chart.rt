@@ -2,6 +2,7 @@
 ghost use Rattle.std.specs.Prelude.{◌≡◌, ◌≤◌, ◌-◌, ◌++◌, IfOk, OnOk, codes, length, map, option_to_list};
 ghost use Rattle.std.specs.List.{flat_map};
 ghost use Rattle.dm_chart.specs.Drawn.{all_drawn};
+ghost use Rattle.dm_chart.specs.Left.{IsLeft};
 ghost use Rattle.dm_chart.specs.Measures.{name_room};
 ghost use Rattle.dm_chart.specs.Picture.{bars_line, extent, foot, foot_line, frame_of, layers, made_in, made_with, moved_down, picture_body, picture_head, picture_in, picture_of, processes_in, reach_line, sheet, title, way_down};
 ghost use Rattle.dm_chart.specs.Roles.{role_of};
@@ -14,6 +15,7 @@ use crate::frame::{Frame, Layer, MOST_LANES, Point, breadth, height, name_room, 
 use crate::headings::put_column;
 use crate::kept::Kept;
 use crate::key::{put_marks, put_meanings, put_style_sheet};
+use crate::left::left_of;
 use crate::lines::{put_lines, put_living};
 use crate::role::{Life, Role, role_of};
 use crate::spot::{first_spot, more};
@@ -218,12 +220,15 @@ fn put_layers(
 ) -> Result<(), NoMemory>
     ensures { OnOk result (into.new.items ≡ into.old.items ++ layers frame.old starts.now kept.now) }
 {
+    let lines = kept.lines.as_slice();
+    let found = left_of(alloc, frame, lines)?;
+    let left = found.as_slice();
     frame.layer = Layer::Grounds;
-    put_shapes(alloc, into, frame, starts, kept)?;
+    put_shapes(alloc, into, frame, starts, kept, left)?;
     frame.layer = Layer::Ways;
-    put_shapes(alloc, into, frame, starts, kept)?;
+    put_shapes(alloc, into, frame, starts, kept, left)?;
     frame.layer = Layer::Words;
-    put_shapes(alloc, into, frame, starts, kept)
+    put_shapes(alloc, into, frame, starts, kept, left)
 }
 
 /// Writes what stands above the legend.
@@ -412,13 +417,15 @@ fn put_shapes(
     frame: &Frame,
     starts: &[Pid],
     kept: &Kept,
+    left: &[bool],
 ) -> Result<(), NoMemory>
+    requires { IsLeft frame.now kept.now.lines left.now }
     ensures { OnOk result (into.new.items ≡ into.old.items ++ all_drawn frame.now (shapes frame.now.machines frame.now.rows frame.now.hidden starts.now kept.now.lines)) }
 {
     let lines = kept.lines.as_slice();
     put_columns(into, frame)?;
     put_starts(alloc, into, frame, starts, lines)?;
-    put_lines(alloc, into, frame, lines)
+    put_lines(alloc, into, frame, lines, left)
 }
 
 /// Draws the machines.

@@ -9,6 +9,7 @@ mod headings;
 mod kept;
 mod key;
 pub mod laws;
+mod left;
 mod lines;
 mod notes;
 mod role;

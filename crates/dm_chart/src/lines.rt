@@ -1,14 +1,15 @@
 //! The shapes of lines.
-ghost use Rattle.std.specs.Prelude.{◌≡◌, [], ◌∷◌, ◌++◌, IfOk, OnOk, false};
+ghost use Rattle.std.specs.Prelude.{◌≡◌, [], ◌∷◌, ◌++◌, ◌<◌, IfOk, IsTrue, OnOk, false, length, slice_index_or, true};
 ghost use Rattle.dm_chart.specs.Ahead.{first_ahead, is_end, is_restart};
 ghost use Rattle.dm_chart.specs.Behind.{kills_of, waits_behind};
 ghost use Rattle.dm_chart.specs.Drawn.{all_drawn, draw_note, unless_over};
+ghost use Rattle.dm_chart.specs.Left.{IsLeft, bar_shows, end_seen, end_shows, letter_shows, move_shows, packet_shows, wait_shows};
 ghost use Rattle.dm_chart.specs.Notes.{note_of};
 ghost use Rattle.dm_chart.specs.Shapes.{bar, comes_at, deliveries, fate_here, group_shapes, letter_shapes, life_shapes, line_shapes, moves_shown, own_shapes, row_or, sending_shapes, shapes_from, wait, wait_if};
 ghost use Rattle.dm_chart.specs.Spots.{first_spot};
 
 use crate::bars::{put_bar, put_moves, put_waits};
-use crate::frame::{Frame, Place, lane_of};
+use crate::frame::{Frame, Layer, Place, lane_of};
 use crate::headings::put_group;
 use crate::notes::put_note;
 use crate::role::{Letter, Life, Role, role_of};
@@ -42,13 +43,15 @@ struct Page<'a> {
     after: &'a [Line],
 }
 
-/// Draws all lines.
+/// Draws all lines, by what may be left of those that stand before the first group that is shown.
 pub fn put_lines(
     alloc: Global,
     into: &mut Vec<u8>,
     frame: &Frame,
     lines: &[Line],
+    left: &[bool],
 ) -> Result<(), NoMemory>
+    requires { IsLeft frame.now lines.now left.now }
     ensures { OnOk result (into.new.items ≡ into.old.items ++ all_drawn frame.now (shapes_from frame.now.rows lines.now [] (first_spot frame.now.hidden) lines.now)) }
 {
     let mut spot = first_spot(frame.hidden);
@@ -58,10 +61,39 @@ pub fn put_lines(
             before: &lines[..i],
             after: &lines[i + 1..],
         };
-        put_line(alloc, into, frame, &page, spot, line)?;
+        put_unless(alloc, into, frame, &page, spot, line, is_over(left, i))?;
         spot = next_spot(spot, line);
     }
     Ok(())
+}
+
+/// Whether nothing is left to draw of line i, the first at 0.
+fn is_over(left: &[bool], i: usize) -> bool
+    ensures within { IsTrue result → i < length left.now }
+    ensures over { IsTrue result → slice_index_or left.now i true ≡ false }
+{
+    i < left.len() && !left[i]
+}
+
+/// Draws a line of a page, unless nothing is left to draw of it.
+fn put_unless(
+    alloc: Global,
+    into: &mut Vec<u8>,
+    frame: &Frame,
+    page: &Page,
+    before: Spot,
+    line: &Line,
+    over: bool,
+) -> Result<(), NoMemory>
+    requires { IsTrue over → all_drawn frame.now (line_shapes frame.now.rows page.now.all.now page.now.before.now before line.now page.now.after.now) ≡ [] }
+    ensures { OnOk result (into.new.items ≡ into.old.items ++
+        all_drawn frame.now (line_shapes frame.now.rows page.now.all.now page.now.before.now before line.now page.now.after.now)) }
+{
+    if over {
+        Ok(())
+    } else {
+        put_line(alloc, into, frame, page, before, line)
+    }
 }
 
 /// Draws a line of a page.
@@ -163,6 +195,7 @@ fn put_role(
 }
 
 /// Draws a message that is put.
+#[tactic(auto, using(crate::proofs::Layered::end_is_seen))]
 fn put_letter(
     into: &mut Vec<u8>,
     frame: &Frame,
@@ -173,9 +206,89 @@ fn put_letter(
 ) -> Result<(), NoMemory>
     ensures { OnOk result (into.new.items ≡ into.old.items ++ all_drawn frame.now (letter_shapes letter before.now spot after.now)) }
 {
+    if !letter_shows(frame) {
+        return Ok(());
+    }
     let style = style_of(spot.step, letter.kind, was_put(before, letter.id));
-    let last = comes_at(letter.from, letter.to, before, spot, after);
+    let last = end_seen(frame, letter, spot, before, after);
     put_arrow(into, frame, style, letter, spot.row, last)
+}
+
+/// The row at which a message enters an inbox, where this layer shows it.
+fn end_seen(
+    frame: &Frame,
+    letter: Letter,
+    spot: Spot,
+    before: &[Line],
+    after: &[Line],
+) -> Option<u32>
+    ensures { result ≡ end_seen frame.now.layer letter before.now spot after.now }
+{
+    if end_shows(frame, spot) {
+        comes_at(letter.from, letter.to, before, spot, after)
+    } else {
+        None
+    }
+}
+
+/// Whether something of a message is drawn in this layer.
+fn letter_shows(frame: &Frame) -> bool
+    ensures { result ≡ letter_shows frame.now.layer }
+{
+    match frame.layer {
+        Layer::Grounds => false,
+        Layer::Ways | Layer::Words => true,
+    }
+}
+
+/// Whether it is seen in this layer where a message ends.
+fn end_shows(frame: &Frame, spot: Spot) -> bool
+    ensures { result ≡ end_shows frame.now.layer spot.row }
+{
+    match frame.layer {
+        Layer::Grounds | Layer::Ways => true,
+        Layer::Words => spot.row == 0,
+    }
+}
+
+/// Whether something of a packet is drawn in this layer.
+fn packet_shows(frame: &Frame) -> bool
+    ensures { result ≡ packet_shows frame.now.layer }
+{
+    match frame.layer {
+        Layer::Ways => true,
+        Layer::Grounds | Layer::Words => false,
+    }
+}
+
+/// Whether a bar of a process is drawn in this layer, or its name.
+fn bar_shows(frame: &Frame, pid: Pid) -> bool
+    ensures { result ≡ bar_shows frame.now pid }
+{
+    match frame.layer {
+        Layer::Grounds | Layer::Words => lane_of(frame, pid).is_some(),
+        Layer::Ways => false,
+    }
+}
+
+/// Whether it is drawn in this layer that a process waits.
+fn wait_shows(frame: &Frame, pid: Pid) -> bool
+    ensures { result ≡ wait_shows frame.now pid }
+{
+    match frame.layer {
+        Layer::Grounds => lane_of(frame, pid).is_some(),
+        Layer::Ways | Layer::Words => false,
+    }
+}
+
+/// Whether it is drawn in this layer that a process moves.
+fn move_shows(frame: &Frame, pid: Pid) -> bool
+    ensures { result ≡ move_shows frame.now pid }
+{
+    match frame.layer {
+        Layer::Ways => lane_of(frame, pid).is_some(),
+        Layer::Grounds | Layer::Words => false,
+    }
 }
 
 /// The row at which a message enters an inbox.
@@ -205,6 +318,9 @@ fn put_sending(
     ensures { OnOk result (into.new.items ≡ into.old.items ++
         all_drawn frame.now (sending_shapes sending.from sending.to sending.k sending.row sending.own spot after.now)) }
 {
+    if !packet_shows(frame) {
+        return Ok(());
+    }
     let Sending {
         from,
         to,
@@ -344,6 +460,9 @@ fn put_waiting(
 ) -> Result<(), NoMemory>
     ensures { OnOk result (into.new.items ≡ into.old.items ++ all_drawn frame.now (wait frame.now.rows lines.now pid spot after.now ∷ [])) }
 {
+    if !wait_shows(frame, pid) {
+        return Ok(());
+    }
     let kills = kills_of(alloc, lines, pid)?;
     let kills = kills.as_slice();
     let last = match first_ahead(Wanted::WaitEnd { pid, kills }, spot, after) {
@@ -374,6 +493,9 @@ pub fn put_living(
 ) -> Result<(), NoMemory>
     ensures { OnOk result (into.new.items ≡ into.old.items ++ all_drawn frame.now (bar frame.now.rows lines.now pid m spot after.now ∷ [])) }
 {
+    if !bar_shows(frame, pid) {
+        return Ok(());
+    }
     let last = end_of(alloc, frame, pid, spot, lines, after)?;
     put_bar(into, frame, pid, m, spot.row, last, lane_of(frame, pid))
 }
@@ -409,6 +531,9 @@ fn put_moving(
 ) -> Result<(), NoMemory>
     ensures { OnOk result (into.new.items ≡ into.old.items ++ all_drawn frame.now (moves_shown frame.now.rows pid spot (first_ahead (is_restart pid) spot after.now))) }
 {
+    if !move_shows(frame, pid) {
+        return Ok(());
+    }
     let (machine, row) = match first_ahead(Wanted::Restart(pid), spot, after) {
         Some(found) => (found.machine, found.row),
         None => (spot.machine, frame.rows),

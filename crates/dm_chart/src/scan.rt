@@ -59,7 +59,8 @@ fn is_wanted(wanted: Wanted, role: Role) -> bool
     }
 }
 
-fn is_taken(from: u8, to: u8, n: usize, role: Role) -> bool
+/// Whether a line of this role takes message number n into an inbox.
+pub fn is_taken(from: u8, to: u8, n: usize, role: Role) -> bool
     ensures { result ≡ is_taken from to n role }
 {
     match role {
@@ -82,7 +83,8 @@ pub fn is_delivery(from: u8, to: u8, k: u64, role: Role) -> bool
     }
 }
 
-fn is_end(pid: Pid, kills: &[MsgId], role: Role) -> bool
+/// Whether in a line of this role a process's life on a machine ends; these are the messages that kill it.
+pub fn is_end(pid: Pid, kills: &[MsgId], role: Role) -> bool
     ensures { result ≡ is_end pid kills.now role }
 {
     match role {
@@ -93,7 +95,8 @@ fn is_end(pid: Pid, kills: &[MsgId], role: Role) -> bool
     }
 }
 
-fn is_wait_end(pid: Pid, kills: &[MsgId], role: Role) -> bool
+/// Whether in a line of this role it waits no more.
+pub fn is_wait_end(pid: Pid, kills: &[MsgId], role: Role) -> bool
     ensures { result ≡ is_wait_end pid kills.now role }
 {
     match role {
@@ -105,7 +108,8 @@ fn is_wait_end(pid: Pid, kills: &[MsgId], role: Role) -> bool
     }
 }
 
-fn is_restart(pid: Pid, role: Role) -> bool
+/// Whether in a line of this role a process goes on.
+pub fn is_restart(pid: Pid, role: Role) -> bool
     ensures { result ≡ is_restart pid role }
 {
     match role {

@@ -1,4 +1,3 @@
 pub mod Names
 pub mod Services
 pub mod Landings
-pub mod Tested

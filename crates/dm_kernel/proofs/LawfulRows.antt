@@ -1,7 +1,7 @@
 -- What the rows of a turn give is lawful.
 use Rattle.dm_kernel.proofs.Names.{◌≡◌, ℕ, ◌-◌, ◌*◌, ◌<◌, ◌≤◌, Bool, true, false, ◌==◌, if◌then◌else◌, List, [], ◌∷◌, ◌++◌, length, map, replicate, Some, None, refl, sym, subst, inl, inr, ◌⊎◌, arith, All, IfSome, common_steps, All-append}
 use Rattle.dm_kernel.proofs.Names.{All-cons, All-map, All-nil, All-push, nat_tests, Option, Link, Pid, IsMachine, IsLawfulEnclosed, pid_eq, Message, What, kind_of, IsLawfulMessage, IsLawfulWhat, is_answer, Process, IsLawfulProcess}
-use Rattle.dm_kernel.proofs.Names.{SlotIsLawful, Here, with_record, Taken, answer, none_lawful, Boot, BootImage, Format, One, Two, Why, image_is_valid, slots_of, memory_of, slots_with, Line, Part, Says, Routes, child_of, with_child, routes}
+use Rattle.dm_kernel.proofs.Names.{SlotIsLawful, Here, with_record, Taken, answer, Boot, BootImage, Format, One, Two, Why, image_is_valid, slots_of, memory_of, slots_with, Line, Part, Says, Routes, child_of, with_child, routes}
 use Rattle.dm_kernel.proofs.Names.{AreLawful, IsLawfulKnown, IsLawfulPart, IsLawfulRoom, IsLawfulState, IsLawfulTurned, KernelState, KernelKnown, Turned, drops, with_here, without_process, forgets, Resident}
 use Rattle.dm_kernel.proofs.Names.{IsLawfulResident, name_of, room_with, room_without}
 use Rattle.dm_resident.specs.declared.Resident.TheVariants as resident
@@ -109,37 +109,3 @@ with_stopped x stopped h =
 pub answer_lawfully : (here moves : ℕ) (m : Message) (w : What) → here < 16 → IsLawfulMessage m → is_answer (kind_of w) ≡ true → IsLawfulWhat w → IsLawfulMessage (answer here moves m w)
 answer_lawfully here moves m w machine h kind what =
     record { from = h.from; answer = sym kind; to = h.sender; sender = record { home = h.to.home; at = omega arith }; what = what }
-
--- a process that begins
-pub enough : (f : Format) → 3 ≤ slots_of f
-enough One = omega arith
-enough Two = omega arith
-
-many : (f : Format) → (slots_of f ≡ 32) ⊎ (slots_of f ≡ 128)
-many One = inl refl
-many Two = inr refl
-
-slots_length : (slots : ℕ) (links : List Link) → length links ≤ slots → length (slots_with slots links) ≡ slots
-slots_length slots links h = grind (arith, common_steps)
-
-memory_length : (i : BootImage) → image_is_valid i ≡ true → (length (memory_of i) ≡ 256 * i.blocks) × (1 ≤ i.blocks) × (i.blocks ≤ 256)
-memory_length i valid = (grind (arith, common_steps, nat_tests), grind (arith, nat_tests), grind (arith, nat_tests))
-
-slots_lawfully : (slots : ℕ) (links : List Link) → All IsLawfulEnclosed links → All SlotIsLawful (slots_with slots links)
-slots_lawfully slots links h =
-    All-append SlotIsLawful (map Some links) (replicate (slots - length links) None) (All-map SlotIsLawful Some links h) (none_lawful (slots - length links))
-
-pub child_lawfully : (b : Boot) (p : Pid) (i : BootImage) (links : List Link) → IsMachine p.home → image_is_valid i ≡ true → length links ≤ slots_of b.format → All IsLawfulEnclosed links
-    → IsLawfulProcess (child_of b p i links)
-child_lawfully b p i links home valid few lawful =
-    let size : (length (memory_of i) ≡ 256 * i.blocks) × (1 ≤ i.blocks) × (i.blocks ≤ 256) = memory_length i valid in
-    let all : length (slots_with (slots_of b.format) links) ≡ slots_of b.format = slots_length (slots_of b.format) links few in
-    record {
-      home = home;
-      registers = refl;
-      size = (i.blocks, size.0, size.1, size.2);
-      links = slots_lawfully (slots_of b.format) links lawful;
-      slots = subst (λ (n : ℕ). (n ≡ 32) ⊎ (n ≡ 128)) (sym all) (many b.format);
-      status = tt;
-      queue = All-nil IsLawfulMessage;
-    }

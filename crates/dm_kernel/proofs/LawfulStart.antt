@@ -6,110 +6,10 @@ use Rattle.dm_kernel.proofs.Names.{link_is_valid, links_are_valid, machine_is_va
 use Rattle.dm_kernel.proofs.Names.{begins_process, child_of, empty, opened, room_of, with_all, with_child, IsLawfulKnown, IsLawfulRoom, IsLawfulState, FrontMay, MayTurn, KernelState, KernelKnown, blocks_of}
 use Rattle.dm_kernel.proofs.Names.{Board, IsLawfulBoard, IsLawfulManager, IsServer, Managing, Resident, IsLawfulNamed, bare, with_servers, ◌⊎◌, inl, inr}
 use Rattle.dm_resident.specs.declared.Resident.TheVariants as resident
-use Rattle.dm_kernel.proofs.Making.{image_fits}
-use Rattle.dm_kernel.proofs.LawfulRows.{child_lawfully, same_room}
+use Rattle.dm_onekernel.proofs.Lawful.{child_lawfully, few_machines, home_of, links_lawfully, links_of}
+use Rattle.dm_onekernel.proofs.Making.{image_fits}
+use Rattle.dm_kernel.proofs.LawfulRows.{same_room}
 use Rattle.dm_kernel.proofs.Opening.{machine_fits}
-
--- where a link of a boot file leads
-record Leads (l : Link) : Type 0 where
-  home : l.addr.pid.home ≤ 15
-  at : l.addr.at ≤ 15
-  area : l.area.base + l.area.len ≤ 65536
-
-either : {A : Type 0} (b c : Bool) → (b || c) ≡ true → (b ≡ true → A) → (c ≡ true → A) → A
-either true c e h k = h refl
-either false c e h k = k e
-
-chosen : {A : Type 0} (test x y : Bool) → (if test then x else y) ≡ true → (test ≡ true → x ≡ true → A) → (test ≡ false → y ≡ true → A) → A
-chosen true x y e h k = h refl e
-chosen false x y e h k = k refl e
-
-to_server : (l : Link) → l.addr.pid.home ≡ 0 → leads_to_server l ≡ true → Leads l
-to_server l home h = record { home = omega arith; at = grind (arith, nat_tests); area = grind (arith, nat_tests) }
-
-to_child : (b : Boot) (l : Link) → l.addr.pid.home ≡ 0 → controls_child b l ≡ true → Leads l
-to_child b l home h = record { home = omega arith; at = grind (arith, nat_tests); area = grind (arith, nat_tests) }
-
--- a process of the boot file is on a machine of it
-named_or : (b : Boot) (test : Bool) (q : Pid) (x p : BootProcess) (rest : Option BootProcess) → pid_eq x.pid q ≡ test → x.pid.home < length b.machines → (if test then Some x else rest) ≡ Some p
-    → (rest ≡ Some p → (pid_eq p.pid q ≡ true) × (p.pid.home < length b.machines)) → (pid_eq p.pid q ≡ true) × (p.pid.home < length b.machines)
-named_or b true q x p rest is home e h =
-    let same : x ≡ p = cc in subst (λ (p : BootProcess). (pid_eq p.pid q ≡ true) × (p.pid.home < length b.machines)) same (is, home)
-named_or b false q x p rest is home e h = h e
-
-home_of : (b : Boot) (others : ℕ) (p : BootProcess) → process_is_valid b others p ≡ true → p.pid.home < length b.machines
-home_of b others p valid = grind (arith, nat_tests)
-
-named_home : (b : Boot) (q : Pid) (earlier ps : List BootProcess) (p : BootProcess) → processes_are_valid b earlier ps ≡ true → process_named q ps ≡ Some p
-    → (pid_eq p.pid q ≡ true) × (p.pid.home < length b.machines)
-named_home b q earlier [] p valid e = absurd (cc)
-named_home b q earlier (x ∷ xs) p valid e =
-    let parts : (process_is_valid b (starting_at x.pid.home earlier) x ≡ true) × (processes_are_valid b (earlier ++ x ∷ []) xs ≡ true) =
-    and_parts (process_is_valid b (starting_at x.pid.home earlier) x) (processes_are_valid b (earlier ++ x ∷ []) xs) valid
-    in
-    named_or b (pid_eq x.pid q) q x p (process_named q xs) refl (home_of b (starting_at x.pid.home earlier) x parts.0) e (named_home b q (earlier ++ x ∷ []) xs p parts.1)
-
-few_blocks : (i : BootImage) → image_is_valid i ≡ true → i.blocks ≤ 256
-few_blocks i valid = grind (arith, nat_tests)
-
-blocks_within : (images : List BootImage) (n : ℕ) (o : Option BootImage) → images_are_valid images ≡ true → slice_get images n ≡ o → blocks_of_image o ≤ 256
-blocks_within images n None valid e = omega arith
-blocks_within images n (Some i) valid e = few_blocks i (image_fits images n i valid e)
-
-leads_within : (at home area base len blocks machines : ℕ) → ((at == home) && nat_le (base + len) area) ≡ true → area ≡ 256 * blocks → blocks ≤ 256 → home < machines → machines ≤ 16
-    → (at ≤ 15) × (base + len ≤ 65536)
-leads_within at home area base len blocks machines h a b c d = (grind (arith, nat_tests), grind (arith, nat_tests))
-
-to_process : (b : Boot) (l : Link) (o : Option BootProcess) → IsValid b → length b.machines ≤ 16 → process_named l.addr.pid b.processes ≡ o → leads_to_process b l o ≡ true → Leads l
-to_process b l None valid few e h = absurd (cc)
-to_process b l (Some p) valid few e h =
-    let named : (pid_eq p.pid l.addr.pid ≡ true) × (p.pid.home < length b.machines) = named_home b l.addr.pid [] b.processes p valid.processes e in
-    let same : p.pid ≡ l.addr.pid = pid_eq_same p.pid l.addr.pid named.0 in
-    let home : p.pid.home ≡ l.addr.pid.home = ap (λ (q : Pid). q.home) same in
-    let less : p.pid.home < length b.machines = named.1 in
-    let both : (l.addr.at ≤ 15) × (l.area.base + l.area.len ≤ 65536) =
-    leads_within l.addr.at p.pid.home (memory_size b (Some p)) l.area.base l.area.len (blocks_of_image (slice_get b.images p.image)) (length b.machines) h refl
-    (blocks_within b.images p.image (slice_get b.images p.image) valid.images refl)
-    less
-    few
-    in
-    record { home = omega arith; at = both.0; area = both.1 }
-
-home_zero : (p q : Pid) → q.home ≡ 0 → pid_eq p q ≡ true → p.home ≡ 0
-home_zero p q zero e = ap (λ (p : Pid). p.home) (pid_eq_same p q e) ∙ zero
-
-leads : (b : Boot) (l : Link) → IsValid b → length b.machines ≤ 16 → leads_somewhere b l ≡ true → Leads l
-leads b l valid few h =
-    chosen (pid_eq l.addr.pid switchboard) (leads_to_server l) _ h (λ is to. to_server l (home_zero l.addr.pid switchboard refl is) to)
-    (λ no k.
-    chosen (pid_eq l.addr.pid manager) (leads_to_server l || controls_child b l) (leads_to_process b l (process_named l.addr.pid b.processes)) k
-    (λ is to.
-    either (leads_to_server l) (controls_child b l) to (to_server l (home_zero l.addr.pid manager refl is)) (to_child b l (home_zero l.addr.pid manager refl is)))
-    (λ nor to. to_process b l (process_named l.addr.pid b.processes) valid few refl to))
-
-is_false : (b : Bool) → not b ≡ true → b ≡ false
-is_false true e = absurd (cc)
-is_false false e = refl
-
-link_lawfully : (b : Boot) (l : Link) → IsValid b → length b.machines ≤ 16 → link_is_valid b l ≡ true → IsLawfulEnclosed l
-link_lawfully b l valid few h =
-    let one : ((l.addr.moves == 0) ≡ true) × ((not l.to_kernel && (nat_le l.channel 31 && leads_somewhere b l)) ≡ true) =
-    and_parts (l.addr.moves == 0) (not l.to_kernel && (nat_le l.channel 31 && leads_somewhere b l)) h
-    in
-    let two : (not l.to_kernel ≡ true) × ((nat_le l.channel 31 && leads_somewhere b l) ≡ true) = and_parts (not l.to_kernel) (nat_le l.channel 31 && leads_somewhere b l) one.1 in
-    let three : (nat_le l.channel 31 ≡ true) × (leads_somewhere b l ≡ true) = and_parts (nat_le l.channel 31) (leads_somewhere b l) two.1 in
-    let channel : nat_le l.channel 31 ≡ true = three.0 in
-    let to : Leads l = leads b l valid few three.1 in
-    record {
-      link = record { addr = record { home = to.home; at = to.at }; channel = grind (arith, nat_tests); area = to.area };
-      not_to_kernel = is_false l.to_kernel two.0;
-    }
-
-links_lawfully : (b : Boot) (ls : List Link) → IsValid b → length b.machines ≤ 16 → links_are_valid b ls ≡ true → All IsLawfulEnclosed ls
-links_lawfully b [] valid few h = All-nil IsLawfulEnclosed
-links_lawfully b (l ∷ ls) valid few h =
-    let parts : (link_is_valid b l ≡ true) × (links_are_valid b ls ≡ true) = and_parts (link_is_valid b l) (links_are_valid b ls) h in
-    All-cons IsLawfulEnclosed l ls (link_lawfully b l valid few parts.0) (links_lawfully b ls valid few parts.1)
 
 -- a process that hasn't executed anything yet stands in its room
 record Fresh (s : KernelState) (p : Pid) (x : Process) : Type 0 where
@@ -162,9 +62,6 @@ begins_fresh b s p None test is e valid home none few lawful h = h
 begins_fresh b s p (Some i) true is e valid home none few lawful h = rw is (child_fresh b s p i home none (image_fits b.images p.image i valid e) few lawful h)
 begins_fresh b s p (Some i) false is e valid home none few lawful h = rw is h
 
-links_of : (b : Boot) (others : ℕ) (p : BootProcess) → process_is_valid b others p ≡ true → (length p.links ≤ slots_of b.format) × (links_are_valid b p.links ≡ true)
-links_of b others p valid = (grind (arith, nat_tests), grind (arith, nat_tests))
-
 -- the processes of a boot file bear numbers behind those of the servers
 numbered_behind : (b : Boot) (others : ℕ) (p : BootProcess) → process_is_valid b others p ≡ true → 3 ≤ p.pid.num
 numbered_behind b others p valid = grind (arith, nat_tests)
@@ -198,9 +95,6 @@ here_still b s p (Some i) = here_or (p.pid.home == s.here) s (with_child s p.pid
 pub here_always : (b : Boot) (s : KernelState) (ps : List BootProcess) → (with_all b s ps).here ≡ s.here
 here_always b s [] = refl
 here_always b s (p ∷ ps) = here_always b (begins_process b s p (slice_get b.images p.image)) ps ∙ here_still b s p (slice_get b.images p.image)
-
-pub few_machines : (n : ℕ) → nat_le n 16 ≡ true → n ≤ 16
-few_machines n h = grind (arith, nat_tests)
 
 -- no process is here at first
 no_process : (set : Bool) (r : Resident) (o : Option KernelKnown) (x : Process) → ((y : Process) → r ≡ resident.Process y → ⊥) → (o ≡ Some (Here (resident.Process x)) → ⊥) → (if set then Some (Here r) else o) ≡ Some (Here (resident.Process x)) → ⊥

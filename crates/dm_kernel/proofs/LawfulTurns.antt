@@ -22,12 +22,13 @@ use Rattle.dm_syscall.specs.declared.Called.TheVariants as called
 use Rattle.dm_syscall.specs.Completing as completing
 use Rattle.dm_kernel.specs.declared.run.Halt.TheVariants as halt
 use Rattle.dm_kernel.specs.Handle.{has_room}
-use Rattle.dm_kernel.proofs.Making.{image_fits}
+use Rattle.dm_onekernel.proofs.Making.{image_fits}
+use Rattle.dm_onekernel.proofs.Lawful.{child_lawfully, enough}
 use Rattle.dm_kernel.proofs.Serving.{first_is_on, has_run, runs_lawfully}
 use Rattle.dm_kernel.proofs.LawfulMoves.{asked_lawfully, asks_lawfully, asks_move_lawfully, board_follows_lawfully, chunk_lawfully, forwards_lawfully, gives_lawfully}
 use Rattle.dm_kernel.proofs.LawfulMoves.{holds_arriving_lawfully, holds_leaving_lawfully, leaves_lawfully, manager_follows_lawfully, migrates_lawfully, process_follows_lawfully, restarts_lawfully, stays_lawfully, arriving_known}
 use Rattle.dm_kernel.proofs.LawfulMoves.{after_lawfully, buries_lawfully, called_off_lawfully, hears_lawfully, over_lawfully, preceded_lawful}
-use Rattle.dm_kernel.proofs.LawfulRows.{Lawfully, answer_lawfully, child_lawfully, enough, home_lawful, if_lawfully, knows, none_said, of_known, routed, routes_lawfully, said, with_one_more, with_process, with_queued, with_stopped}
+use Rattle.dm_kernel.proofs.LawfulRows.{Lawfully, answer_lawfully, home_lawful, if_lawfully, knows, none_said, of_known, routed, routes_lawfully, said, with_one_more, with_process, with_queued, with_stopped}
 
 -- a process that executes
 ends_lawfully : (s : KernelState) (p : Pid) (k : ℕ) (x : Process) (y : Why) → s.here < 16 → IsMachine p.home → IsLawfulState s → Lawfully (ends s p k x y)

@@ -66,7 +66,6 @@ pub use Rattle.dm_procman.specs.declared.moving.MoveError.{MoveError}
 pub use Rattle.dm_datamove.proofs.Landings.{lands_lawfully}
 pub use Rattle.dm_datamove.proofs.Names.{IsAwaited, IsLawfulLanded, IsWithin, Landing, Pid, after_serving, answer, gone_answer, is_answer, kind_of, landing, nat_le, serving_answer}
 pub use Rattle.dm_datamove.proofs.Services.{answers_lawfully, serves_lawfully}
-pub use Rattle.dm_datamove.proofs.Tested.{none_lawful}
 pub use Rattle.dm_datamove.specs.Serving.{gone_what}
 pub use Rattle.dm_datamove.specs.declared.Landed.{Landed}
 pub use Rattle.dm_syscall.proofs.Completes.{completes_lawfully}
@@ -82,7 +81,8 @@ pub use Rattle.dm_line.specs.Sets.{moved_back, without}
 pub use Rattle.dm_line.specs.declared.line.Line.{Line}
 pub use Rattle.dm_kernel.proofs.All.{with_all}
 pub use Rattle.dm_kernel.specs.Asking.{asks_manager, asks_move, told_to_move}
-pub use Rattle.dm_kernel.specs.Begun.{bare, begins_process, child_of, empty, opened, room_of, with_child, with_servers}
+pub use Rattle.dm_kernel.specs.Begun.{bare, begins_process, empty, opened, room_of, with_child, with_servers}
+pub use Rattle.dm_onekernel.specs.Child.{child_of}
 pub use Rattle.dm_kernel.specs.Burying.{after_end, buries, ends_with, hears_bury, preds_of, with_told}
 pub use Rattle.dm_kernel.specs.Coming.{accepts, answers_ask, calling_off, calls_arriving_off, calls_off, hears_piece, holds_arriving, if_expected, is_expected, is_not_called, restarts, restarts_as, says_stale, takes_piece, piece_lines}
 pub use Rattle.dm_kernel.specs.Coming.{took_piece, turns_back, without_arriving}

@@ -2,10 +2,8 @@
 use Rattle.std.specs.Prelude.{ℕ, ◌+◌, ◌==◌, false, if◌then◌else◌, List, [], ◌∷◌, ◌++◌, fold, slice_get}
 use Rattle.std.specs.declared.option.Option.{Option}
 use Rattle.std.specs.declared.option.Option.TheVariants.{None, Some}
-use Rattle.dm_link.specs.declared.Link.{Link}
 use Rattle.dm_link.specs.declared.Pid.{Pid}
 use Rattle.dm_process.specs.declared.process.Process.{Process}
-use Rattle.dm_process.specs.Begun.{begun_process}
 use Rattle.dm_room.specs.Room.{Taken, nothing_taken, with_reserved}
 use Rattle.dm_records.specs.declared.record.Record.TheVariants.{Here}
 use Rattle.dm_records.specs.Records.{with_record}
@@ -14,15 +12,10 @@ use Rattle.dm_onekernel.specs.declared.boot.BootMachine.{BootMachine}
 use Rattle.dm_onekernel.specs.declared.boot.BootImage.{BootImage}
 use Rattle.dm_onekernel.specs.declared.boot.BootProcess.{BootProcess}
 use Rattle.dm_onekernel.specs.declared.boot.Boot.{Boot}
-use Rattle.dm_onekernel.specs.Boot.{slots_of}
-use Rattle.dm_onekernel.specs.Start.{memory_of, slots_with}
+use Rattle.dm_onekernel.specs.Child.{child_of}
 use Rattle.dm_onekernel.specs.Boot.{switchboard, manager}
 use Rattle.dm_resident.specs.declared.Resident.TheVariants as resident
 use Rattle.dm_kernel.specs.State.{KernelState, with_known}
-
--- a process of this image with these links from slot 0 on, which hasn't executed anything yet
-abbrev pub child_of : Boot → Pid → BootImage → List Link → Process
-child_of b p i links = begun_process p (memory_of i) (slots_with (slots_of b.format) links)
 
 -- it stands at the ring's back, and takes a slot and its blocks
 abbrev pub with_child : KernelState → Pid → Process → ℕ → KernelState

@@ -28,7 +28,8 @@ use Rattle.dm_onekernel.specs.Options.{bind}
 use Rattle.dm_line.specs.declared.line.Line.TheVariants as line
 use Rattle.dm_kernel.specs.declared.part.Part.{Part}
 use Rattle.dm_kernel.specs.declared.part.Part.TheVariants.{Says, Routes}
-use Rattle.dm_kernel.specs.Begun.{child_of, with_child}
+use Rattle.dm_kernel.specs.Begun.{with_child}
+use Rattle.dm_onekernel.specs.Child.{child_of}
 use Rattle.dm_switchboard.specs.Board.{Board}
 use Rattle.dm_procman.specs.Managing.{Managing}
 use Rattle.dm_resident.specs.Packed.{state_of}

@@ -7,11 +7,11 @@ ghost use Rattle.dm_kernel.specs.Idle.{KnowsIdle};
 ghost use Rattle.dm_kernel.specs.Meets.{IsIn, kernel_state};
 
 use crate::kernel::Kernel;
-use crate::make::{child_of, image_of};
+use crate::make::image_of;
 use dm_link::{MANAGER, SWITCHBOARD};
 use dm_lists::Queue;
 use dm_memory::NoMemory;
-use dm_onekernel::{Boot, BootProcess};
+use dm_onekernel::{Boot, BootProcess, child_of};
 use dm_procman::ProcMan;
 use dm_records::{Record, Records};
 use dm_resident::Resident;

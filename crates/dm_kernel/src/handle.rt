@@ -1,7 +1,7 @@
-//! How a message is handled: by what is known of its receiver, by what that is, and by its kind.
+//! How a message comes, and how it is handled: by what is known of its receiver, by what that is, and by its kind.
 ghost use Rattle.dm_resident.specs.declared.Resident.TheVariants as resident;
 ghost use Rattle.dm_kernel.specs.State.{process_in};
-ghost use Rattle.std.specs.Prelude.{◌≡◌, ◌<◌, IfSome, OnOk, Some, true};
+ghost use Rattle.std.specs.Prelude.{◌≡◌, ◌<◌, ◌∷◌, ◌++◌, [], IfSome, OnErr, OnOk, Some, true};
 ghost use Rattle.dm_records.specs.Records.{at, here_of};
 ghost use Rattle.dm_records.specs.declared.record.Record.TheVariants.{Here};
 ghost use Rattle.dm_message.specs.Lawful.{IsLawfulMessage};
@@ -9,22 +9,33 @@ ghost use Rattle.dm_migrate.specs.Departure.{CanMove};
 ghost use Rattle.dm_onekernel.specs.Boot.{images_are_valid};
 ghost use Rattle.dm_onekernel.specs.Options.{bind};
 ghost use Rattle.dm_kernel.specs.Carried.{FreezesReceiverWhole, KnownIsWhole, WhereSentOff};
-ghost use Rattle.dm_kernel.specs.Handle.{ended_handles, handles, here_handles, process_handles};
-ghost use Rattle.dm_kernel.specs.May.{FitsEnded, FitsKnown, MayAct, MayHandle};
+ghost use Rattle.dm_kernel.specs.Handle.{ended_handles, handles, here_handles, kernel_handles, process_handles};
+ghost use Rattle.dm_kernel.specs.May.{FitsEnded, FitsKernel, FitsKnown, MayAct, MayHandle};
 ghost use Rattle.dm_kernel.specs.Meets.{Answers, kernel_state};
 ghost use Rattle.dm_kernel.specs.Served.{Handles, IsHere};
 
 use crate::kernel::Kernel;
+use crate::make::image_of;
 use crate::part::Part;
 use dm_line::line::Line;
 use dm_link::MACHINES;
 use dm_memory::{NoMemory, Parcel};
 use dm_message::{Message, What};
+use dm_migrate::Ask;
 use dm_onekernel::Boot;
 use dm_records::Record;
 use dm_resident::Resident;
 
 impl Kernel {
+    /// A message comes, and waits behind the others.
+    pub fn enters(&mut self, message: Parcel<Message>) -> Result<(), NoMemory>
+        ensures ok { OnOk result (self.new ≡ record self.old { inbox = self.old.inbox ++ message ∷ [] }) }
+        ensures err { OnErr result (self.new ≡ self.old) }
+    {
+        self.inbox.push(message)?;
+        Ok(())
+    }
+
     /// Handles a message for the machine's kernel, a server or a process.
     pub(crate) fn handle(
         &mut self,
@@ -42,6 +53,55 @@ impl Kernel {
             self.for_kernel(boot, message.get())
         } else {
             self.for_process(message)
+        }
+    }
+
+    /// Handles a message for the machine's kernel: it makes a process, lets one or a server leave or come, or forgets one.
+    fn for_kernel(&mut self, boot: &Boot, message: &Message) -> Result<Vec<Part>, NoMemory>
+        requires lawful { IsLawfulMessage message.now }
+        requires images { images_are_valid boot.now.images ≡ true }
+        requires fits { FitsKernel boot.now (kernel_state self.old) message.now message.now.what }
+        ensures { Answers result self.new (kernel_handles boot.now (kernel_state self.old) message.now message.now.what) }
+    {
+        match &message.what {
+            What::Create { image, links } => {
+                self.make(boot, message, image_of(boot, *image), links.as_slice())
+            }
+            What::Ask {
+                pid,
+                blocks,
+                moves,
+                size,
+                asker,
+            } => {
+                let ask = Ask {
+                    pid: *pid,
+                    source: message.id.from.home,
+                    blocks: *blocks,
+                    moves: *moves,
+                    size: *size,
+                    asker: *asker,
+                };
+                self.answer(boot, message, ask)
+            }
+            What::Refuse { pid, .. } => self.stay(*pid),
+            What::PullState { pid, chunk } => self.give_chunk(message, *pid, *chunk),
+            What::State {
+                pid,
+                chunk,
+                last,
+                bytes,
+            } => self.take_chunk(message, *pid, *chunk, *last, bytes.as_slice()),
+            What::PullBlock { pid, block } => self.give_block(message, *pid, *block),
+            What::Memory { pid, block, bytes } => {
+                self.take_block(message, *pid, *block, bytes.get())
+            }
+            What::AllTaken { pid } => self.let_go(*pid),
+            What::Restart { pid } => self.restart(boot, *pid),
+            What::CallOff { pid } => self.stay_behind(message, *pid),
+            What::Bury { pid } => self.bury(message, *pid),
+            // No other kind is sent to a kernel: what a message must fit says so.
+            _ => unreachable!(),
         }
     }
 

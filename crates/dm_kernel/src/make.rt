@@ -1,17 +1,13 @@
 //! How a process is made of an image.
 ghost use Rattle.dm_resident.specs.declared.Resident.TheVariants as resident;
-ghost use Rattle.std.specs.Prelude.{◌≡◌, ◌+◌, ◌<◌, ◌≤◌, ◌⊎◌, [], ◌∷◌, ◌++◌, IfOk, OnOk, Some, length, slice_get, true};
+ghost use Rattle.std.specs.Prelude.{◌≡◌, ◌+◌, ◌<◌, ◌≤◌, [], ◌∷◌, ◌++◌, IfOk, OnOk, Some, length, slice_get, true};
 ghost use Rattle.dm_records.specs.Records.{at, with_record};
 ghost use Rattle.dm_records.specs.declared.record.Record.TheVariants.{Here};
-ghost use Rattle.dm_message.specs.Lawful.{IsLawfulMessage};
-ghost use Rattle.dm_onekernel.specs.Boot.{image_is_valid, images_are_valid, slots_of};
-ghost use Rattle.dm_onekernel.specs.Start.{slots_with};
+ghost use Rattle.dm_onekernel.specs.Boot.{image_is_valid, images_are_valid};
 ghost use Rattle.dm_datamove.specs.Serving.{answer};
 ghost use Rattle.dm_message.specs.declared.What.TheVariants as what_;
 ghost use Rattle.dm_onekernel.specs.declared.label.Label.TheVariants as label_;
-ghost use Rattle.dm_kernel.specs.Begun.{child_of};
-ghost use Rattle.dm_kernel.specs.Handle.{has_room, kernel_handles, makes, next_pid};
-ghost use Rattle.dm_kernel.specs.May.{FitsKernel};
+ghost use Rattle.dm_kernel.specs.Handle.{has_room, makes, next_pid};
 ghost use Rattle.dm_kernel.specs.Meets.{Answers, IsIn, kernel_state};
 ghost use Rattle.dm_kernel.specs.State.{says, with_known};
 
@@ -20,73 +16,18 @@ use crate::part::Part;
 use dm_datamove::answer;
 use dm_line::line::Line;
 use dm_link::{FIRST_NUMBER, Link, Pid};
-use dm_linktable::{FEW_SLOTS, MOST_SLOTS, Table};
 use dm_memory::{NoMemory, Parcel, list_of};
 use dm_message::{Message, What};
-use dm_migrate::{Arriving, Ask, Leaving};
-use dm_onekernel::{Boot, BootImage, Label, Why};
+use dm_migrate::{Arriving, Leaving};
+use dm_onekernel::{Boot, BootImage, Label, child_of};
 use dm_process::Process;
 use dm_records::Record;
 use dm_resident::Resident;
 use dm_room::Lacks;
-use std::alloc::Global;
 
 impl Kernel {
-    /// Handles a message for the machine's kernel: it makes a process, lets one or a server leave or come, or forgets one.
-    pub(crate) fn for_kernel(
-        &mut self,
-        boot: &Boot,
-        message: &Message,
-    ) -> Result<Vec<Part>, NoMemory>
-        requires lawful { IsLawfulMessage message.now }
-        requires images { images_are_valid boot.now.images ≡ true }
-        requires fits { FitsKernel boot.now (kernel_state self.old) message.now message.now.what }
-        ensures { Answers result self.new (kernel_handles boot.now (kernel_state self.old) message.now message.now.what) }
-    {
-        match &message.what {
-            What::Create { image, links } => {
-                self.make(boot, message, image_of(boot, *image), links.as_slice())
-            }
-            What::Ask {
-                pid,
-                blocks,
-                moves,
-                size,
-                asker,
-            } => {
-                let ask = Ask {
-                    pid: *pid,
-                    source: message.id.from.home,
-                    blocks: *blocks,
-                    moves: *moves,
-                    size: *size,
-                    asker: *asker,
-                };
-                self.answer(boot, message, ask)
-            }
-            What::Refuse { pid, .. } => self.stay(*pid),
-            What::PullState { pid, chunk } => self.give_chunk(message, *pid, *chunk),
-            What::State {
-                pid,
-                chunk,
-                last,
-                bytes,
-            } => self.take_chunk(message, *pid, *chunk, *last, bytes.as_slice()),
-            What::PullBlock { pid, block } => self.give_block(message, *pid, *block),
-            What::Memory { pid, block, bytes } => {
-                self.take_block(message, *pid, *block, bytes.get())
-            }
-            What::AllTaken { pid } => self.let_go(*pid),
-            What::Restart { pid } => self.restart(boot, *pid),
-            What::CallOff { pid } => self.stay_behind(message, *pid),
-            What::Bury { pid } => self.bury(message, *pid),
-            // No other kind is sent to a kernel: what a message must fit says so.
-            _ => unreachable!(),
-        }
-    }
-
     /// Makes a process of an image with links, as a message asks, or says what is free.
-    fn make(
+    pub(crate) fn make(
         &mut self,
         boot: &Boot,
         message: &Message,
@@ -179,23 +120,6 @@ impl Kernel {
     }
 }
 
-/// A process of an image with these links from slot 0 on, which hasn't executed anything yet.
-pub(crate) fn child_of(
-    alloc: Global,
-    boot: &Boot,
-    pid: Pid,
-    image: &BootImage,
-    links: &[Link],
-) -> Result<Process, NoMemory>
-    requires image { image_is_valid image.now ≡ true }
-    requires links { length links.now ≤ slots_of boot.now.format }
-    ensures { IfOk result (λ x. x ≡ child_of boot.now pid image.now links.now) }
-{
-    let table = table_of(alloc, links, boot.format.slots())?;
-    let bytes = image.bytes.as_slice();
-    Ok(Process::new(alloc, pid, bytes, image.blocks, table)?)
-}
-
 /// An image of the boot file, by its place.
 pub(crate) fn image_of(boot: &Boot, place: u16) -> &BootImage
     requires images { images_are_valid boot.now.images ≡ true }
@@ -204,17 +128,4 @@ pub(crate) fn image_of(boot: &Boot, place: u16) -> &BootImage
     ensures fits { image_is_valid result.now ≡ true }
 {
     &boot.images.as_slice()[usize::from(place)]
-}
-
-/// A table with these links from slot 0 on.
-fn table_of(alloc: Global, links: &[Link], slots: u8) -> Result<Table, NoMemory>
-    requires slots { (slots ≡ FEW_SLOTS) ⊎ (slots ≡ MOST_SLOTS) }
-    requires fits { length links.now ≤ slots }
-    ensures { IfOk result (λ table. table ≡ slots_with slots links.now) }
-{
-    let mut table = Table::new(alloc, slots)?;
-    for link in links {
-        table.put(*link).unwrap();
-    }
-    Ok(table)
 }

@@ -1,13 +1,13 @@
-//! What can be read of a kernel, and how a message comes to it.
+//! What can be read of a kernel.
 ghost use Rattle.dm_kernel.specs.State.{manager_in};
 ghost use Rattle.dm_records.specs.Records.{at};
-ghost use Rattle.std.specs.Prelude.{◌≡◌, ◌∷◌, ◌++◌, [], OnErr, OnOk, is_some};
+ghost use Rattle.std.specs.Prelude.{◌≡◌, is_some};
 
 use crate::kernel::Kernel;
 use crate::residents::manager;
 use dm_link::{MANAGER, Pid};
 use dm_lists::Queue;
-use dm_memory::{NoMemory, Parcel};
+use dm_memory::Parcel;
 use dm_message::Message;
 use dm_migrate::{Arriving, Leaving};
 use dm_onekernel::Why;
@@ -55,14 +55,5 @@ impl Kernel {
         ensures { result ≡ is_some (manager_in (at self.now.records MANAGER)) }
     {
         manager(&self.records).is_some()
-    }
-
-    /// A message comes, and waits behind the others.
-    pub fn enters(&mut self, message: Parcel<Message>) -> Result<(), NoMemory>
-        ensures ok { OnOk result (self.new ≡ record self.old { inbox = self.old.inbox ++ message ∷ [] }) }
-        ensures err { OnErr result (self.new ≡ self.old) }
-    {
-        self.inbox.push(message)?;
-        Ok(())
     }
 }

@@ -16,4 +16,4 @@ pub mod Own
 pub mod Goes
 pub mod Sizes
 pub mod RunsAlways
-pub mod Confined
+pub mod Taken

@@ -1,6 +1,7 @@
 //! What holds wherever the rule leads, whoever ran by it.
 ghost use Rattle.dm_law_always.specs.Order.{ReceivesInOrder};
 ghost use Rattle.dm_law_always.specs.Sizes.{SizesAlways};
+ghost use Rattle.dm_law_always.specs.Taken.{TakenOnce};
 ghost use Rattle.dm_law_always.specs.Laws.{FitsAlways, FoundAlways, GoesOnAlways, KnownAlways, RuleDecides, ShorterBegins};
 
 /// Wherever the rule leads from a boot file, each directive has its group, migrations included.
@@ -49,4 +50,10 @@ pub fn shorter_begins()
 /// those that a process receives on one channel are received in the order in which they were sent.
 pub fn receives_in_order()
     ensures { ReceivesInOrder }
+{}
+
+/// No message is taken twice, by whatever step: received, served, taken by a server, dropped, answered as gone, granted or refused as a
+/// request to make a process, or followed as one to move.
+pub fn taken_once()
+    ensures { TakenOnce }
 {}

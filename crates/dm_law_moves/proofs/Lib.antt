@@ -25,6 +25,7 @@ pub mod Movers
 pub mod Routed
 pub mod ProtocolMoves
 pub mod LifeLines
+pub mod LetterLines
 pub mod ServerLines
 pub mod Preds
 pub mod Settles

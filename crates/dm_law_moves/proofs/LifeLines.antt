@@ -11,18 +11,18 @@ use Rattle.dm_law_moves.proofs.Stages.Spares.{restart_late, restart_goes}
 use Rattle.dm_law_rule.specs.Phases as phases
 
 -- the first of so many machines that is looked for
-record Finds (f : Known → Option Standing) (v : View) (p : Pid) (n : ℕ) : Type 0 where
-  at : Stood
-  is : first_with f v p n ≡ Some at
-  within : at.at < n
-  stands : f (v.known at.at p) ≡ Some at.standing
+pub record Finds (f : Known → Option Standing) (v : View) (p : Pid) (n : ℕ) : Type 0 where
+  pub at : Stood
+  pub is : first_with f v p n ≡ Some at
+  pub within : at.at < n
+  pub stands : f (v.known at.at p) ≡ Some at.standing
 
 -- or there is none
-record FindsNone (f : Known → Option Standing) (v : View) (p : Pid) (n : ℕ) : Type 0 where
-  is : first_with f v p n ≡ None
-  none : (m : ℕ) → m < n → f (v.known m p) ≡ None
+pub record FindsNone (f : Known → Option Standing) (v : View) (p : Pid) (n : ℕ) : Type 0 where
+  pub is : first_with f v p n ≡ None
+  pub none : (m : ℕ) → m < n → f (v.known m p) ≡ None
 
-first_or : (f : Known → Option Standing) (v : View) (p : Pid) (n : ℕ) → Finds f v p n ⊎ FindsNone f v p n
+pub first_or : (f : Known → Option Standing) (v : View) (p : Pid) (n : ℕ) → Finds f v p n ⊎ FindsNone f v p n
 first_or f v p zero = inr (record { is = refl; none = λ m less. absurd (omega (arith, less)) })
 first_or f v p (suc n) = grind (arith, nat_tests, first_or f v p n)
 

@@ -19,6 +19,7 @@ pub mod Routed
 pub mod Protocol
 pub mod Stales
 pub mod LifeLines
+pub mod LetterLines
 pub mod ServerLines
 pub mod Predecessors
 pub mod Settles

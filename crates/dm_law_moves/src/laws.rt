@@ -6,6 +6,7 @@ ghost use Rattle.dm_law_moves.specs.Counts.{CountsKept, CountsStay};
 ghost use Rattle.dm_law_moves.specs.Ends.{EndsAlways};
 ghost use Rattle.dm_law_moves.specs.Lists.{ListsAlways, ListsForTheirs};
 ghost use Rattle.dm_law_moves.specs.Numbers.{NumbersAlways};
+ghost use Rattle.dm_law_moves.specs.LetterLines.{LettersStandInLines};
 ghost use Rattle.dm_law_moves.specs.LifeLines.{LivesAreSaid};
 ghost use Rattle.dm_law_moves.specs.Forwards.{ForwardsTell, RequestsTell};
 ghost use Rattle.dm_law_moves.specs.Links.{CountsPromise};
@@ -220,6 +221,12 @@ pub fn lists_for_theirs()
 /// that is under way; or it is left over of a migration of its process that was called off.
 pub fn protocol_moves()
     ensures { ProtocolMoves }
+{}
+
+/// Wherever the rule leads from a boot file, each message that the kernel without machines holds stands in just one line at the end, of a
+/// queue, of what is held back, of an inbox or of a stream, and there once; and no other stands in one, but a machine's own kernel's.
+pub fn letters_stand_in_lines()
+    ensures { LettersStandInLines }
 {}
 
 /// Wherever the rule leads from a boot file: among the lines that are said there at the end, each process that was ever made has

@@ -1,7 +1,7 @@
 //! Names of processes, their addresses, and links.
 #![tactic(auto)]
 
-ghost use Rattle.std.specs.Prelude.{◌≡◌, IsTrue, ◌↔◌};
+ghost use Rattle.std.specs.Prelude.{◌≡◌};
 ghost use Rattle.dm_link.specs.Places.{is_behind, kernel_at, relocated, relocated_link, retargeted, retargeted_link};
 ghost use Rattle.dm_link.specs.Plain.{PlainLink, plain_link};
 
@@ -151,16 +151,4 @@ impl Placeless for Link {
     {
         self.addr.relocate(at, moves);
     }
-}
-
-/// Whether the two links mean the same, wherever their processes are.
-pub fn plain_eq(a: &Link, b: &Link) -> bool
-    ensures { IsTrue result ↔ (plain_link a.now ≡ plain_link b.now) }
-{
-    a.addr.pid == b.addr.pid
-        && a.kind == b.kind
-        && a.to_kernel == b.to_kernel
-        && a.code == b.code
-        && a.channel == b.channel
-        && a.area == b.area
 }

@@ -2,8 +2,6 @@
 use Rattle.std.specs.Prelude.{ℕ, Bool, true, false, List, slice_index_or}
 use Rattle.std.specs.declared.option.Option.{Option}
 use Rattle.std.specs.declared.option.Option.TheVariants.{None, Some}
-use Rattle.std.specs.declared.result.Result.{Result}
-use Rattle.std.specs.declared.result.Result.TheVariants.{Ok, Err}
 use Rattle.std.specs.Option.{is_none, option_map}
 use Rattle.std.specs.List.{position}
 use Rattle.dm_link.specs.declared.Pid.{Pid}
@@ -12,8 +10,6 @@ use Rattle.dm_link.specs.declared.Kind.TheVariants.{General, Reply}
 use Rattle.dm_link.specs.declared.Link.{Link}
 use Rattle.dm_link.specs.Places.{is_behind, retargeted_link}
 use Rattle.dm_link.specs.Plain.{PlainLink, plain_link}
-use Rattle.dm_linktable.specs.declared.CopyError.{CopyError}
-use Rattle.dm_linktable.specs.declared.CopyError.TheVariants as no
 
 -- what slot n holds: nothing where it is empty, or where there is no such slot
 abbrev pub link_at : {L : Type 0} → List (Option L) → ℕ → Option L
@@ -27,19 +23,6 @@ first_empty slots = position is_none slots
 abbrev pub is_reply : Kind → Bool
 is_reply General = false
 is_reply Reply = true
-
-abbrev pub copy_of_kind : Kind → Option ℕ → Result ℕ CopyError
-copy_of_kind Reply empty = Err no.ReplyLink
-copy_of_kind General None = Err no.Full
-copy_of_kind General (Some n) = Ok n
-
-abbrev pub copy_of_link : Option Link → Option ℕ → Result ℕ CopyError
-copy_of_link None empty = Err no.Empty
-copy_of_link (Some l) empty = copy_of_kind l.kind empty
-
--- the slot that a copy of slot n's link goes into, or why there is none
-abbrev pub copy_of : List (Option Link) → ℕ → Result ℕ CopyError
-copy_of slots n = copy_of_link (link_at slots n) (first_empty slots)
 
 -- a link of this process that knows fewer moves of it
 abbrev pub slot_is_behind : Pid → ℕ → Option Link → Bool

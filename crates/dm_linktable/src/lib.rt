@@ -4,7 +4,7 @@
 ghost use Rattle.std.specs.Prelude.{◌≡◌, ◌⊎◌, ◌<◌, ◌↔◌, IsTrue, List, length, map, count_by, slice_set, IfOk, IfErr, MatchResult, option_copied, Some, None};
 ghost use Rattle.std.proofs.Math.ListN.{replicate};
 ghost use Rattle.std.specs.Option.{is_none};
-ghost use Rattle.dm_linktable.specs.Slots.{copy_of, first_empty, is_reply, link_at, plain_slot, retargeted_slot, slot_is_behind};
+ghost use Rattle.dm_linktable.specs.Slots.{first_empty, is_reply, link_at, plain_slot, retargeted_slot, slot_is_behind};
 
 mod index;
 mod slots;
@@ -45,17 +45,6 @@ impl Model for Table {
     ghost view = { λ t. t.slots.items };
 
     ghost invariant = { λ t. IsTable t.slots.items t.index.items × (length t.slots.items ≤ vec_capacity t.index) };
-}
-
-/// Why a link isn't copied.
-#[derive(Clone, Copy, Debug)]
-pub enum CopyError {
-    /// There is no link in that slot, or no such slot.
-    Empty,
-    /// A reply link serves for one message, and is never copied (1977).
-    ReplyLink,
-    /// No slot is empty.
-    Full,
 }
 
 impl Table {
@@ -130,24 +119,6 @@ impl Table {
         index::remove(&mut self.index, link.addr.pid, slot);
         self.slots[slot as usize] = None;
         Some(link)
-    }
-
-    /// Copies a general link into the lowest empty slot.
-    pub fn copy(&mut self, slot: u8) -> Result<u8, CopyError>
-        ensures answer { result ≡ copy_of self.old slot }
-        ensures after { MatchResult result (λ new. self.new ≡ slice_set self.old new (link_at self.old slot)) (λ _. self.new ≡ self.old) }
-    {
-        let link = match self.get(slot) {
-            Some(link) => *link,
-            None => return Err(CopyError::Empty),
-        };
-        if serves_once(link.kind) {
-            return Err(CopyError::ReplyLink);
-        }
-        match self.put(link) {
-            Ok(new) => Ok(new),
-            Err(_) => Err(CopyError::Full),
-        }
     }
 
     /// Sets the links to a process that know fewer moves of it than these to where it is; answers how many changed.

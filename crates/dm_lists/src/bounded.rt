@@ -2,7 +2,7 @@
 ghost use Rattle.std.specs.Prelude.{[], IfOk, ◌≡◌, ◌≤◌, length};
 ghost use Rattle.arrayvec.specs.ArrayVec.{array_vec_len};
 
-use dm_memory::{NoMemory, with_room};
+use dm_memory::{NoMemory, with_room_for};
 use std::alloc::Global;
 use std::marker::Model;
 use std::ops::DerefSlice;
@@ -44,7 +44,7 @@ impl<T, const MOST: usize> Bounded<T, MOST> {
         requires { length values.now ≤ MOST }
         ensures { IfOk result (λ list. list.items ≡ values.now) }
     {
-        let mut list = with_room(alloc, values.len())?;
+        let mut list = with_room_for(alloc, values)?;
         list.extend_from_slice(values).unwrap();
         Ok(Bounded { values: list })
     }

@@ -39,14 +39,6 @@ impl<T> Items<T> {
         Items { items }
     }
 
-    /// The vector of the values.
-    pub fn into_vec(self) -> Vec<T>
-        ensures { result.items ≡ self }
-    {
-        let Items { items } = self;
-        items
-    }
-
     /// Adds a value at the end.
     pub fn push(&mut self, item: T) -> Result<(), NoMemory>
     where

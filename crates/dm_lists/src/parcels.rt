@@ -1,7 +1,7 @@
 //! A queue of values that stand on the heap.
 ghost use Rattle.std.specs.Prelude.{List, [], ◌∷◌, ◌++◌, ◌+◌, IfOk, MatchOption, OnErr, OnOk, length, remove, slice_get, vec_capacity, vec_len, ◌≡◌, ◌<◌};
 
-use dm_memory::{NoMemory, Parcel, push_back, with_room};
+use dm_memory::{NoMemory, Parcel, push_back, room_for_all};
 use std::alloc::Global;
 use std::collections::VecDeque;
 use std::marker::Model;
@@ -160,7 +160,7 @@ impl<T> Parcels<T> {
         ensures len { IfOk result (λ list. vec_len list ≡ 0) }
         ensures exact { IfOk result (λ list. vec_capacity list ≡ length self.now + vec_len more.now) }
     {
-        with_room(alloc, self.len().saturating_add(more.len()))
+        room_for_all(alloc, &self.before, &self.behind, more)
     }
 
     /// How many there are.

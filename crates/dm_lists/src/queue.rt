@@ -1,9 +1,9 @@
 //! A list that grows at its back and shrinks at its front.
-ghost use Rattle.std.specs.Prelude.{List, [], ◌∷◌, ◌++◌, ◌+◌, IfErr, IfOk, MatchOption, OnErr, OnOk, length, remove, slice_get, vec_capacity, vec_len, ◌≡◌, ◌<◌};
+ghost use Rattle.std.specs.Prelude.{List, [], ◌∷◌, ◌++◌, ◌+◌, IfOk, MatchOption, OnErr, OnOk, length, remove, slice_get, vec_capacity, vec_len, ◌≡◌, ◌<◌};
 ghost use Rattle.std.specs.Fn.{CalledAt};
 ghost use Rattle.std.specs.List.Retain.{IsFiltered};
 
-use dm_memory::{NoMemory, Parcel, push_back, push_back_or_return, push_front, room_for_both};
+use dm_memory::{NoMemory, Parcel, push_back, push_front, room_for_both};
 use std::alloc::Global;
 use std::collections::VecDeque;
 use std::marker::Model;
@@ -43,15 +43,6 @@ impl<T> Queue<T> {
         ensures err { OnErr result (self.new ≡ self.old) }
     {
         push_back(&mut self.items, item)
-    }
-
-    /// Adds a value at the back, or hands it back where there is no memory.
-    pub fn push_or_return(&mut self, item: T) -> Result<(), (T, NoMemory)>
-        ensures ok { OnOk result (self.new ≡ self.old ++ item ∷ []) }
-        ensures err { OnErr result (self.new ≡ self.old) }
-        ensures returned { IfErr result (λ back. back.0 ≡ item) }
-    {
-        push_back_or_return(&mut self.items, item)
     }
 
     /// Puts a value before the front, or leaves the queue as it was.

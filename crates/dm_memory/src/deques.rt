@@ -2,7 +2,7 @@
 ghost use Rattle.std.specs.Prelude.{◌≡◌, ◌+◌, ◌<◌, ◌≤◌, ◌++◌, ◌∷◌, [], IfErr, IfOk, IsOk, if◌then◌else◌, is_ok, length, vec_capacity, vec_len};
 ghost use Rattle.std.specs.VecDeque.{deque_capacity, deque_len};
 
-use crate::NoMemory;
+use crate::{NoMemory, Parcel};
 use std::alloc::Global;
 use std::collections::VecDeque;
 
@@ -54,6 +54,24 @@ pub fn room_for_both<T>(
     ensures exact { IfOk result (λ list. vec_capacity list ≡ length front.now.items + vec_len back.now) }
 {
     match Vec::with_capacity(alloc, front.len() + back.len()) {
+        Ok(list) => Ok(list),
+        Err(_) => Err(NoMemory(())),
+    }
+}
+
+/// An empty list with room for as many values as stand in these three together.
+pub fn room_for_all<T>(
+    alloc: Global,
+    front: &VecDeque<Parcel<T>>,
+    middle: &VecDeque<Parcel<T>>,
+    back: &Vec<T>,
+) -> Result<Vec<T>, NoMemory>
+    ensures items { IfOk result (λ list. list.items ≡ []) }
+    ensures len { IfOk result (λ list. vec_len list ≡ 0) }
+    ensures exact { IfOk result (λ list. vec_capacity list ≡ length front.now.items + length middle.now.items + vec_len back.now) }
+{
+    let parcels = front.len() + middle.len();
+    match Vec::with_capacity(alloc, parcels.saturating_add(back.len())) {
         Ok(list) => Ok(list),
         Err(_) => Err(NoMemory(())),
     }

@@ -11,10 +11,10 @@ pub mod of_indexmap;
 pub mod of_toml;
 pub mod parcel;
 
-pub use deques::{push_back, push_back_or_return, push_front, room_for_both};
+pub use deques::{push_back, push_back_or_return, push_front, room_for_all, room_for_both};
 pub use lists::{
     append_zeros, extend_from_slice, from_slice, list_of, push, push_or_return, repeated,
-    reserve_for, room_for, with_room, zeros,
+    reserve_for, room_for, with_room, with_room_for, with_room_for_bytes, zeros,
 };
 pub use maps::{insert, insert_or_return};
 pub use parcel::Parcel;

@@ -45,17 +45,19 @@ pub fn reserve_for<T>(list: &mut Vec<T>, _item: &T) -> Result<(), NoMemory>
     }
 }
 
-/// Makes room for so many more values; where there is none, besides for a quarter of those that are there, and for `few` at least:
-/// of a list that only grows less stays empty so than where its room is doubled.
+/// Makes room for as many more values as stand in a slice; where there is none, besides for a quarter of those that are there, and for
+/// `few` at least, which are 1,024 at most: of a list that only grows less stays empty so than where its room is doubled.
 #[inline]
-pub fn room_for<T>(list: &mut Vec<T>, more: usize, few: usize) -> Result<(), NoMemory>
+pub fn room_for<T>(list: &mut Vec<T>, more: &[T], few: usize) -> Result<(), NoMemory>
+    requires { few ≤ 1024 }
     ensures items { list.new.items ≡ list.old.items }
     ensures len { vec_len list.new ≡ vec_len list.old }
-    ensures room { OnOk result (vec_len list.old + more ≤ vec_capacity list.new) }
+    ensures room { OnOk result (vec_len list.old + length more.now ≤ vec_capacity list.new) }
     ensures capacity { vec_capacity list.old ≤ vec_capacity list.new }
-    ensures succeeds { vec_len list.old + more ≤ vec_capacity list.old → IsOk result }
+    ensures succeeds { vec_len list.old + length more.now ≤ vec_capacity list.old → IsOk result }
 {
     let len = list.len();
+    let more = more.len();
     if more <= list.capacity() - len {
         return Ok(());
     }
@@ -93,13 +95,38 @@ pub fn append_zeros(list: &mut Vec<u8>, n: u32) -> Result<(), NoMemory>
     }
 }
 
-/// An empty list with room for so many values.
+/// An empty list with room for so many values, at most 256.
 pub fn with_room<T>(alloc: Global, n: usize) -> Result<Vec<T>, NoMemory>
+    requires { n ≤ 256 }
     ensures items { IfOk result (λ list. list.items ≡ []) }
     ensures len { IfOk result (λ list. vec_len list ≡ 0) }
     ensures room { IfOk result (λ list. vec_capacity list ≡ n) }
 {
     match Vec::with_capacity(alloc, n) {
+        Ok(list) => Ok(list),
+        Err(_) => Err(NoMemory(())),
+    }
+}
+
+/// An empty list with room for as many values as stand in a slice.
+pub fn with_room_for<T>(alloc: Global, values: &[T]) -> Result<Vec<T>, NoMemory>
+    ensures items { IfOk result (λ list. list.items ≡ []) }
+    ensures len { IfOk result (λ list. vec_len list ≡ 0) }
+    ensures room { IfOk result (λ list. vec_capacity list ≡ length values.now) }
+{
+    match Vec::with_capacity(alloc, values.len()) {
+        Ok(list) => Ok(list),
+        Err(_) => Err(NoMemory(())),
+    }
+}
+
+/// No bytes, with room for so many.
+pub fn with_room_for_bytes(alloc: Global, n: u32) -> Result<Vec<u8>, NoMemory>
+    ensures items { IfOk result (λ list. list.items ≡ []) }
+    ensures len { IfOk result (λ list. vec_len list ≡ 0) }
+    ensures room { IfOk result (λ list. vec_capacity list ≡ n) }
+{
+    match Vec::with_capacity(alloc, n as usize) {
         Ok(list) => Ok(list),
         Err(_) => Err(NoMemory(())),
     }

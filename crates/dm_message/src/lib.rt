@@ -1,13 +1,12 @@
 //! Messages: all that processes, servers and kernels say to each other.
 #![tactic(auto)]
 
-ghost use Rattle.std.specs.Prelude.{◌≡◌, is_some};
+ghost use Rattle.std.specs.Prelude.{◌≡◌};
 ghost use Rattle.dm_link.specs.Places.{relocated};
 ghost use Rattle.dm_message.specs.Ids.{bool_eq};
-ghost use Rattle.dm_message.specs.Kinds.{kind_of};
 ghost use Rattle.dm_message.specs.Lawful.{is_answer};
 ghost use Rattle.dm_message.specs.Outcomes.{code_of_outcome};
-ghost use Rattle.dm_message.specs.Plain.{plain_message, plain_what};
+ghost use Rattle.dm_message.specs.Plain.{plain_message};
 
 mod copies;
 pub mod kind;
@@ -202,13 +201,6 @@ fn agree(said: bool, is_so: bool) -> bool
 }
 
 impl MessageKind {
-    /// Whether the kernel without machines has this kind too: 1 to 12, 23 and 24.
-    pub fn is_plain(self) -> bool
-        ensures { (w : _) → kind_of w ≡ self → result ≡ is_some (plain_what w) }
-    {
-        matches!(self.number(), 1..=12 | 23 | 24)
-    }
-
     /// Whether a message of this kind answers a request, under its name.
     pub fn is_answer(self) -> bool
         ensures { result ≡ is_answer self }
@@ -222,15 +214,6 @@ impl MessageKind {
                 | MessageKind::NoRoom
                 | MessageKind::Moved
         )
-    }
-}
-
-impl What {
-    /// Whether the kernel without machines has this message too: kinds 1 to 12, 23 and 24.
-    pub fn is_plain(&self) -> bool
-        ensures { result ≡ is_some (plain_what self.now) }
-    {
-        self.kind().is_plain()
     }
 }
 

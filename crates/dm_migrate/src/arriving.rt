@@ -15,7 +15,7 @@ ghost use Rattle.dm_migrate.specs.Departure.{sent_on};
 use crate::answer::Ask;
 use dm_link::{Pid, Placeless, SWITCHBOARD};
 use dm_linktable::{FEW_SLOTS, MOST_SLOTS, Table};
-use dm_memory::{NoMemory, push_or_return, with_room};
+use dm_memory::{NoMemory, push_or_return, with_room_for_bytes};
 use dm_message::{Asker, CHUNK, Message, What};
 use dm_process::{Mailbox, Process};
 use dm_processor::{MOST_BLOCKS, Memory};
@@ -121,7 +121,7 @@ pub(crate) fn expect(alloc: Global, ask: Ask, cap: u8) -> Result<Arriving, NoMem
 fn room_for_state(alloc: Global, size: u32) -> Result<Vec<u8>, NoMemory>
     ensures { IfOk result (λ state. state.items ≡ replicate size 0) }
 {
-    let mut state: Vec<u8> = with_room(alloc, size as usize)?;
+    let mut state = with_room_for_bytes(alloc, size)?;
     match state.resize(size as usize, 0) {
         Ok(()) => Ok(state),
         // There is room for them.

@@ -11,5 +11,6 @@ pub mod Kernel
 pub mod Switchboard
 pub mod Manager
 pub mod Start
+pub mod Child
 pub mod Service
 pub mod Step

@@ -9,11 +9,13 @@ ghost use Rattle.dm_outside.specs.Outside.{RoseOrFull, ReadsTold, appended};
 mod limit;
 pub mod mem_shelf;
 pub mod mem_sink;
+pub mod opens;
 pub mod real_shelf;
 pub mod real_sink;
 
 pub use mem_shelf::MemShelf;
 pub use mem_sink::MemSink;
+pub use opens::Opens;
 pub use real_shelf::RealShelf;
 pub use real_sink::RealSink;
 

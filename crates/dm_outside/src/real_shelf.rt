@@ -1,25 +1,24 @@
-//! The shelf of real files: what an open file tells of its bytes stands in the contract. Which file the system opens under a
-//! name stands in none.
+//! The shelf of real files: what an open file tells of its bytes stands in the contract, and that the file of the name that was
+//! asked for is opened. Which file the system has under a name stands in none.
 ghost use Rattle.std.specs.Prelude.{◌≡◌, ◌<◌, ◌≤◌, ◌+◌, ◌==◌, ◌&&◌, length, ⊤, None, IfOk, OnOk, OnErr, IfSome};
 ghost use Rattle.std.specs.Str.{bytes_eq};
 ghost use Rattle.dm_outside.specs.Outside.{RoseOrFull, counted};
 ghost use Rattle.dm_outside.specs.Real.{GoesOn, ReadsReal};
 
+use crate::opens::Opens;
 use crate::{Failed, Shelf};
 use arrayvec::ArrayString;
-use std::fs;
 use std::io::Read;
 use std::marker::Model;
-use std::rt::Files;
 
 /// The most bytes of a file's name: no system opens a longer one.
 const LONGEST_NAME: usize = 4096;
 
 /// The files of the system, read one at a time from their first byte on. A read at byte 0 opens
 /// the file; one that doesn't go on where the last one ended is a fault, and so is one of a name
-/// of more than 4,096 bytes. No memory is taken.
+/// of more than 4,096 bytes. No memory is taken. Of the system it holds nothing but that files are opened for reading.
 #[derive(Drop)]
-pub struct RealShelf<R: Files> {
+pub struct RealShelf<R: Opens> {
     rt: R,
     opened: Option<Opened<R::File>>,
     faults: u64,
@@ -41,18 +40,18 @@ impl<F> Model for Opened<F> {
     ghost view = { λ o. record { name = o.name.bytes; file = o.file; place = o.place } };
 }
 
-impl<R: Files> Model for RealShelf<R> {
+impl<R: Opens> Model for RealShelf<R> {
     ghost use Rattle.dm_outside.specs.Real.{FilesState};
 
-    ghost Value = { FilesState R.File };
+    ghost Value = { FilesState R R.File };
 
-    ghost view = { λ s. record { opened = s.opened; faults = s.faults } };
+    ghost view = { λ s. record { rt = s.rt; opened = s.opened; faults = s.faults } };
 }
 
-impl<R: Files> RealShelf<R> {
+impl<R: Opens> RealShelf<R> {
     /// A shelf with no file open and no faults.
     pub fn new(rt: R) -> Self
-        ensures { result ≡ record { opened = None; faults = 0 } }
+        ensures { result ≡ record { rt = rt; opened = None; faults = 0 } }
     {
         RealShelf {
             rt,
@@ -71,7 +70,9 @@ impl<R: Files> RealShelf<R> {
     /// Opens a file at its first byte, in place of the one that was open; none is open where that fails.
     #[inline(never)]
     fn open(&mut self, name: &str)
-        ensures { self.new.faults ≡ self.old.faults }
+        ensures opened { IfSome self.new.opened (λ o. R.named self.old.rt name.now o.file) }
+        ensures system { self.new.rt ≡ self.old.rt }
+        ensures faults { self.new.faults ≡ self.old.faults }
     {
         self.opened = open_file(&self.rt, name);
     }
@@ -80,6 +81,7 @@ impl<R: Files> RealShelf<R> {
     #[inline(never)]
     fn close(&mut self)
         ensures closes { self.new.opened ≡ None }
+        ensures system { self.new.rt ≡ self.old.rt }
         ensures one_more { self.new.faults ≡ counted self.old.faults }
         ensures counts { self.old.faults ≤ self.new.faults }
     {
@@ -88,7 +90,7 @@ impl<R: Files> RealShelf<R> {
     }
 }
 
-impl<R: Files> Shelf for RealShelf<R> {
+impl<R: Opens> Shelf for RealShelf<R> {
     ghost use Rattle.std.specs.Prelude.{None, ⊤};
 
     ghost told = { λ _. None };
@@ -111,8 +113,9 @@ impl<R: Files> Shelf for RealShelf<R> {
         ensures counts { self.old.faults ≤ self.new.faults }
         ensures one_more { OnErr result (self.new.faults ≡ counted self.old.faults) }
         ensures asks { ⊤ }
-        ensures reads { IfOk result (λ n. ReadsReal R.File R.File.remaining self.old.opened self.new.opened name.now from n into.new) }
+        ensures reads { IfOk result (λ n. ReadsReal R.File R.File.remaining (R.named self.old.rt) self.old.opened self.new.opened name.now from n into.new) }
         ensures closes { OnErr result (self.new.opened ≡ None) }
+        ensures system { self.new.rt ≡ self.old.rt }
     {
         if from == 0 {
             self.open(name);
@@ -128,13 +131,14 @@ impl<R: Files> Shelf for RealShelf<R> {
 }
 
 /// Opens a file at its first byte.
-fn open_file<R: Files>(rt: &R, name: &str) -> Option<Opened<R::File>>
+fn open_file<R: Opens>(rt: &R, name: &str) -> Option<Opened<R::File>>
     ensures named { IfSome result (λ o. o.name ≡ name.now) }
     ensures begins { IfSome result (λ o. o.place ≡ 0) }
+    ensures opened { IfSome result (λ o. R.named rt.now name.now o.file) }
 {
     Some(Opened {
         name: ArrayString::from(name).ok()?,
-        file: fs::open(rt, name).ok()?,
+        file: rt.open_named(name)?,
         place: 0,
     })
 }

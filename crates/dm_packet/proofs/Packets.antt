@@ -1,5 +1,5 @@
 -- What is read is spelled so, and what is spelled so is read: messages and packets.
-use Rattle.dm_packet.proofs.Names.{◌≡◌, ℕ, ◌^◌, ◌<◌, true, eqb, List, [], ◌++◌, length, Result, Ok, Err, refl, sym, ap, subst, ◌∙◌, append_assoc, arith, ◌≢◌, ◌==◌, IfOk, not, eqb-true, eq-eqb, nat_tests, append-nil, nil_from_length}
+use Rattle.dm_packet.proofs.Names.{◌≡◌, ℕ, ◌^◌, ◌<◌, true, eqb, List, [], ◌++◌, length, Result, Ok, refl, sym, ap, subst, ◌∙◌, append_assoc, arith, ◌≢◌, ◌==◌, not, eqb-true, eq-eqb, nat_tests, append-nil, nil_from_length}
 use Rattle.dm_packet.proofs.Names.{IsMachine, MsgId, Message, What, kind_of, IsLawfulMessage, is_answer, PacketError, Packet, Data, Ack, ◌>>=◌, both, number, addr, machine, pid, message_kind, read_what, spell_what, yes_or_no, Head, Opening}
 use Rattle.dm_packet.proofs.Names.{PacketKind, head, head_of, head_parts, id, message, numbered_message, only_packet, opening, packet_kind, packet_of, read_ack, read_data, read_message, read_rest}
 use Rattle.dm_packet.proofs.Names.{bool_eq, Bool, Field, tested, spell_message, spelling, version, with_head, IsLawfulPacket, IsRoute, Fits, FitsId, FitsMessage, FitsPacket}
@@ -185,8 +185,3 @@ packet_again (Ack a b count) lawful fits =
     let no_more = append-nil ((number 4).spell count) in
     ap (λ (r : Result (Opening × List ℕ) PacketError). r >>= λ o. read_rest o.0.kind o.0.from o.0.to o.1 >>= only_packet) first
     ∙ ap (λ (r : Result (ℕ × List ℕ) PacketError). (r >>= λ x. Ok (Ack a b x.0, x.1)) >>= only_packet) (ap (number 4).read (sym no_more) ∙ second)
-
--- what a result that the bytes gave says of them
-pub is_found : (bytes : List ℕ) (r : Result Packet PacketError) → IsBytes bytes → r ≡ packet_of bytes → IfOk r (λ p. IsLawfulPacket p × FitsPacket p × (bytes ≡ spelling p))
-is_found bytes (Ok p) h e = let t = packet_takes bytes p h (sym e) in (t.1, t.2, t.0)
-is_found bytes (Err d) h e = tt

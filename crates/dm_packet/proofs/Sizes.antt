@@ -1,5 +1,5 @@
 -- How long packets are.
-use Rattle.dm_packet.proofs.Names.{◌≡◌, ℕ, ◌+◌, ◌*◌, ◌≤◌, List, [], ◌∷◌, length, None, Some, Result, Ok, Err, refl, sym, ap, subst, ◌∙◌, arith, OnOk, flat_map, length-append, flat_map-cons, Link, What, Message, IsLawfulWhat, PacketError}
+use Rattle.dm_packet.proofs.Names.{◌≡◌, ℕ, ◌+◌, ◌*◌, ◌≤◌, List, [], ◌∷◌, length, None, Some, Ok, refl, sym, ap, subst, ◌∙◌, arith, flat_map, length-append, flat_map-cons, Link, What, Message, IsLawfulWhat}
 use Rattle.dm_packet.proofs.Names.{Packet, Data, Ack, link, links, IsLawfulPacket, head, head_of, packet_of, spell_message, spelling, spell_what, FitsPacket, FitsWhat}
 use Rattle.dm_message.specs.declared.What.TheVariants as what
 use Rattle.dm_packet.proofs.Numbers.{IsBytes}
@@ -51,6 +51,5 @@ unfolding spelling
 packet_size (Data a b seq m) lawful fits = omega (arith, message_size m (what_size m.what lawful.1.what fits.1.what))
 packet_size (Ack a b count) lawful fits = omega arith
 
-pub is_short : (bytes : List ℕ) (r : Result Packet PacketError) → IsBytes bytes → r ≡ packet_of bytes → OnOk r (length bytes ≤ 1024)
-is_short bytes (Ok p) h e = let t = packet_takes bytes p h (sym e) in subst (λ (spelled : List ℕ). length spelled ≤ 1024) (sym t.0) (packet_size p t.1 t.2)
-is_short bytes (Err d) h e = tt
+pub is_short : (bytes : List ℕ) (p : Packet) → IsBytes bytes → packet_of bytes ≡ Ok p → length bytes ≤ 1024
+is_short bytes p h e = let t = packet_takes bytes p h e in subst (λ (spelled : List ℕ). length spelled ≤ 1024) (sym t.0) (packet_size p t.1 t.2)

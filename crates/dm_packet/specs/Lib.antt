@@ -4,7 +4,6 @@ pub mod Reads
 pub mod Whats
 pub mod Packets
 pub mod Parts
-pub mod Decodes
 pub mod Lawful
 pub mod Widths
 pub mod Writes

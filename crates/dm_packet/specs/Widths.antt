@@ -1,5 +1,5 @@
 -- The numbers that fields have room for. What the program holds fits by its types: a law over all values says so.
-use Rattle.std.specs.Prelude.{◌≡◌, ◌<◌, ◌^◌, ℕ, length}
+use Rattle.std.specs.Prelude.{◌≡◌, ◌<◌, ◌^◌, ℕ, List, length, slice_index}
 use Rattle.std.specs.List.{All}
 use Rattle.std.specs.Option.{IfSome}
 use Rattle.dm_link.specs.declared.Pid.{Pid}
@@ -12,6 +12,10 @@ use Rattle.dm_message.specs.declared.What.{What}
 use Rattle.dm_message.specs.declared.What.TheVariants as what
 use Rattle.dm_packet.specs.declared.Packet.{Packet}
 use Rattle.dm_packet.specs.declared.Packet.TheVariants.{Data, Ack}
+
+-- each item of a list is a byte
+abbrev pub AreBytes : List ℕ → Type 0
+AreBytes bytes = (k : ℕ) → slice_index bytes k < 256
 
 -- the number fits into so many bytes
 abbrev pub Fits : ℕ → ℕ → Type 0

@@ -1,24 +1,23 @@
 //! Packets as bytes: what goes over the wire between two machines.
 #![tactic(auto)]
 
-ghost use Rattle.std.specs.Prelude.{◌≡◌, ◌≤◌, [], IfOk, Ok, OnOk, length};
+ghost use Rattle.std.specs.Prelude.{◌≡◌, ◌≤◌, [], Ok, length};
 ghost use Rattle.dm_message.specs.Lawful.{IsLawfulMessage};
 ghost use Rattle.dm_packet.specs.declared.DecodeError.TheVariants as unread;
-ghost use Rattle.dm_packet.specs.Decodes.{Gives, IsDecoded};
-ghost use Rattle.dm_packet.specs.Lawful.{IsLawfulPacket, IsRoute};
+ghost use Rattle.dm_packet.specs.Lawful.{IsRoute};
 ghost use Rattle.dm_packet.specs.Packets.{packet_of, spelling};
 ghost use Rattle.dm_packet.specs.Rules.{number_of_rule};
-ghost use Rattle.dm_packet.specs.Widths.{FitsPacket};
 
 mod front;
+mod laws;
 pub mod reading;
 pub mod writing;
 
 pub use dm_memory::NoMemory;
 use dm_message::Message;
 pub use front::Opened;
+pub use laws::packets_have_one_spelling;
 pub use reading::{numbered_at, opened_at, room};
-use std::alloc::Global;
 use thiserror::Error;
 pub use writing::Buffer;
 use writing::{ack_bytes, put_data};
@@ -116,33 +115,6 @@ impl From<NoMemory> for DecodeError {
 
     fn from(none: NoMemory) -> DecodeError {
         DecodeError::NoMemory(none)
-    }
-}
-
-/// The packet that the bytes spell, all of them, or the first rule from the left that they break. It takes memory for the bytes
-/// and the links of its message alone.
-pub fn decode(alloc: Global, bytes: &[u8]) -> Result<Packet, DecodeError>
-    // Which packet, and which rule.
-    ensures exact { IsDecoded result (packet_of bytes.now) }
-    // What is read is lawful, its numbers fit their fields, and it is spelled so and in no other way.
-    ensures found { IfOk result (λ p. IsLawfulPacket p × FitsPacket p × (bytes.now ≡ spelling p)) }
-    // What is spelled so is read, unless memory lacks, where its numbers fit their fields, as those of a packet that stands in
-    // memory do.
-    ensures only { (p : Packet) → IsLawfulPacket p → FitsPacket p → bytes.now ≡ spelling p → Gives result p }
-    ensures size { OnOk result (length bytes.now ≤ MOST_PACKET) }
-{
-    match opened_at(bytes)? {
-        Opened::Data { from, to, behind } => {
-            let mut message = room();
-            let seq = numbered_at(alloc, behind, &mut message)?;
-            Ok(Packet::Data {
-                from,
-                to,
-                seq,
-                message,
-            })
-        }
-        Opened::Ack { from, to, count } => Ok(Packet::Ack { from, to, count }),
     }
 }
 

@@ -1,5 +1,5 @@
 -- Joins, one by one: places of one part stay so, those that are joined are, and no two sides come into one part.
-use Rattle.std.proofs.Common.{◌≡◌, ℕ, zero, suc, ◌+◌, ◌-◌, ◌<◌, ◌≤◌, ◌==◌, Bool, true, false, List, [], ◌∷◌, length, map, refl, ap, sym, ◌∙◌, subst, ◌⊎◌, inl, inr, arith, slice_get, nat_lt, nat_le}
+use Rattle.std.proofs.Common.{◌≡◌, ℕ, zero, suc, ◌+◌, ◌<◌, ◌≤◌, ◌==◌, Bool, true, false, List, [], ◌∷◌, map, refl, ap, sym, ◌∙◌, subst, inl, inr, arith, slice_get, nat_lt}
 use Rattle.std.specs.Prelude.{if◌then◌else◌}
 use Rattle.std.specs.declared.option.Option.{Option}
 use Rattle.std.specs.declared.option.Option.TheVariants.{None, Some}
@@ -8,7 +8,7 @@ use Rattle.dm_processor.proofs.Names.{nat_tests}
 use Rattle.dm_link.specs.declared.Link.{Link}
 use Rattle.dm_onekernel.specs.declared.boot.Boot.{Boot}
 use Rattle.dm_onekernel.specs.declared.boot.BootProcess.{BootProcess}
-use Rattle.dm_parts.specs.Parts.{alone, joined, joins, parts_of, renamed, with_link, with_links, with_processes}
+use Rattle.dm_parts.specs.Parts.{alone, joined, joins, renamed, with_link, with_links, with_processes}
 
 -- what stands in a list whose elements were changed
 get_map : (f : ℕ → ℕ) (xs : List ℕ) (u y : ℕ) → slice_get (map f xs) u ≡ Some y → (x : ℕ) × (slice_get xs u ≡ Some x) × (f x ≡ y)

@@ -1,3 +1,4 @@
 pub mod Loops
 pub mod Joins
 pub mod Right
+pub mod Places

@@ -1,7 +1,6 @@
 -- The parts of a system are the finest that each link keeps to.
 use Rattle.std.proofs.Common.{◌≡◌, ℕ, zero, suc, ◌+◌, ◌-◌, ◌<◌, ◌≤◌, ◌==◌, ◌&&◌, ◌||◌, Bool, true, false, not, List, [], ◌∷◌, ◌++◌, length, refl, ap, sym, ◌∙◌, subst, inl, inr, arith, slice_get, nat_lt, nat_le}
-use Rattle.std.specs.Prelude.{if◌then◌else◌, position}
-use Rattle.std.specs.declared.option.Option.{Option}
+use Rattle.std.specs.Prelude.{if◌then◌else◌}
 use Rattle.std.specs.declared.option.Option.TheVariants.{None, Some}
 use Rattle.std.proofs.lemmas.Bool.{and_parts, cases_Bool}
 use Rattle.std.proofs.lemmas.List.Quantifiers.{position-Some}
@@ -11,17 +10,17 @@ use Rattle.dm_link.specs.declared.Pid.{Pid}
 use Rattle.dm_link.specs.Names.{pid_eq}
 use Rattle.dm_onekernel.specs.declared.boot.Boot.{Boot}
 use Rattle.dm_onekernel.specs.declared.boot.BootProcess.{BootProcess}
-use Rattle.dm_onekernel.specs.Boot.{IsValid, area_is_empty, controls_child, is_general, leads_somewhere, leads_to_process, leads_to_server, link_is_valid, links_are_valid, process_is_valid, process_named, processes_are_valid, slots_of, starting_at, switchboard, manager, first_number}
-use Rattle.dm_parts.specs.Laws.{EachKeeps, FirstNames, Joins, LinksKeepToParts, PartsAreFinest, SamePart}
-use Rattle.dm_parts.specs.Parts.{alone, child_place, joins, parts_of, place_of, with_link, with_links, with_processes}
-use Rattle.dm_parts.proofs.Joins.{Named, Fine, Together, Sound, alone_fine, alone_sound, link_fine, link_sound, links_by, links_sound, processes_by, processes_join}
+use Rattle.dm_onekernel.specs.Boot.{area_is_empty, controls_child, is_general, leads_somewhere, leads_to_process, leads_to_server, link_is_valid, links_are_valid, process_is_valid, process_named, processes_are_valid, slots_of, starting_at, switchboard, manager, first_number}
+use Rattle.dm_parts.specs.Laws.{EachKeeps, FirstNames, LinksKeepToParts, PartsAreFinest, SamePart}
+use Rattle.dm_parts.specs.Parts.{alone, child_place, joins, parts_of, place_of}
+use Rattle.dm_parts.proofs.Joins.{Fine, Together, Sound, alone_fine, alone_sound, link_fine, link_sound, links_by, links_sound, processes_by, processes_join}
 
-get_within : {X : Type 0} (xs : List X) (n : ℕ) (x : X) → slice_get xs n ≡ Some x → n < length xs
+pub get_within : {X : Type 0} (xs : List X) (n : ℕ) (x : X) → slice_get xs n ≡ Some x → n < length xs
 get_within [] n x e = cc
 get_within (y ∷ ys) zero x e = omega arith
 get_within (y ∷ ys) (suc n) x e = let k = get_within ys n x e in omega (arith, k)
 
-links_valid_at : (b : Boot) (ls : List Link) (n : ℕ) (l : Link) → links_are_valid b ls ≡ true → slice_get ls n ≡ Some l → link_is_valid b l ≡ true
+pub links_valid_at : (b : Boot) (ls : List Link) (n : ℕ) (l : Link) → links_are_valid b ls ≡ true → slice_get ls n ≡ Some l → link_is_valid b l ≡ true
 links_valid_at b [] n l h e = cc
 links_valid_at b (m ∷ ls) zero l h e = let k : m ≡ l = cc in subst (λ (v : Link). link_is_valid b v ≡ true) k (and_parts (link_is_valid b m) (links_are_valid b ls) h).0
 links_valid_at b (m ∷ ls) (suc n) l h e = links_valid_at b ls n l (and_parts (link_is_valid b m) (links_are_valid b ls) h).1 e
@@ -33,7 +32,7 @@ process_links b others p h =
     let three = and_parts (nat_lt p.image (length b.images)) (nat_le (length p.links) (slots_of b.format) && links_are_valid b p.links) two.1 in
     (and_parts (nat_le (length p.links) (slots_of b.format)) (links_are_valid b p.links) three.1).1
 
-processes_valid_at : (b : Boot) (earlier ps : List BootProcess) (n : ℕ) (p : BootProcess) → processes_are_valid b earlier ps ≡ true → slice_get ps n ≡ Some p → links_are_valid b p.links ≡ true
+pub processes_valid_at : (b : Boot) (earlier ps : List BootProcess) (n : ℕ) (p : BootProcess) → processes_are_valid b earlier ps ≡ true → slice_get ps n ≡ Some p → links_are_valid b p.links ≡ true
 processes_valid_at b earlier [] n p h e = cc
 processes_valid_at b earlier (q ∷ ps) zero p h e =
     let k : q ≡ p = cc in
@@ -41,21 +40,26 @@ processes_valid_at b earlier (q ∷ ps) zero p h e =
 processes_valid_at b earlier (q ∷ ps) (suc n) p h e = processes_valid_at b (earlier ++ q ∷ []) ps n p (and_parts (process_is_valid b (starting_at q.pid.home earlier) q) (processes_are_valid b (earlier ++ q ∷ []) ps) h).1 e
 
 -- the child that a control link's code names is one of the file's
-controls_within : (b : Boot) (l : Link) → controls_child b l ≡ true → l.code ≤ length b.processes
-controls_within b l h =
+controls : (b : Boot) (l : Link) → controls_child b l ≡ true → (nat_le 1 l.code ≡ true) × (nat_le l.code (length b.processes) ≡ true)
+controls b l h =
     let codes = nat_le 1 l.code && nat_le l.code (length b.processes) in
     let one = and_parts (pid_eq l.addr.pid manager) ((l.addr.at == 0) && (is_general l.kind && ((l.channel == 0) && (area_is_empty l.area && codes)))) h in
     let two = and_parts (l.addr.at == 0) (is_general l.kind && ((l.channel == 0) && (area_is_empty l.area && codes))) one.1 in
     let three = and_parts (is_general l.kind) ((l.channel == 0) && (area_is_empty l.area && codes)) two.1 in
     let four = and_parts (l.channel == 0) (area_is_empty l.area && codes) three.1 in
     let five = and_parts (area_is_empty l.area) codes four.1 in
-    let six = (and_parts (nat_le 1 l.code) (nat_le l.code (length b.processes)) five.1).1 in
-    grind (arith, nat_tests)
+    and_parts (nat_le 1 l.code) (nat_le l.code (length b.processes)) five.1
 
-server_code : (l : Link) → leads_to_server l ≡ true → (l.code == 0) ≡ true
+pub controls_least : (b : Boot) (l : Link) → controls_child b l ≡ true → 1 ≤ l.code
+controls_least b l h = let least = (controls b l h).0 in grind (arith, nat_tests)
+
+pub controls_within : (b : Boot) (l : Link) → controls_child b l ≡ true → l.code ≤ length b.processes
+controls_within b l h = let most = (controls b l h).1 in grind (arith, nat_tests)
+
+pub server_code : (l : Link) → leads_to_server l ≡ true → (l.code == 0) ≡ true
 server_code l h = (and_parts (l.code == 0) (area_is_empty l.area) (and_parts (l.addr.at == 0) ((l.code == 0) && area_is_empty l.area) h).1).0
 
-or_second : (a b : Bool) → a ≡ false → (a || b) ≡ true → b ≡ true
+pub or_second : (a b : Bool) → a ≡ false → (a || b) ≡ true → b ≡ true
 or_second a b e h = grind (arith, nat_tests)
 
 child_within : (b : Boot) (l : Link) (other : ℕ) (c : Bool) → (l.code == 0) ≡ c → (leads_to_server l || controls_child b l) ≡ true → (if c then None else Some (l.code - 1)) ≡ Some other → other ≤ length b.processes
@@ -81,7 +85,7 @@ within_by b l other true d h is = let same : length b.processes ≡ other = cc i
 within_by b l other false true h is = child_within b l other (l.code == 0) refl h is
 within_by b l other false false h is = let lt = place_within b.processes l.addr.pid other is in omega (arith, lt)
 
-leads : (b : Boot) (l : Link) → link_is_valid b l ≡ true → leads_somewhere b l ≡ true
+pub leads : (b : Boot) (l : Link) → link_is_valid b l ≡ true → leads_somewhere b l ≡ true
 leads b l h =
     let one = and_parts (l.addr.moves == 0) (not l.to_kernel && (nat_le l.channel 31 && leads_somewhere b l)) h in
     let two = and_parts (not l.to_kernel) (nat_le l.channel 31 && leads_somewhere b l) one.1 in

@@ -1,5 +1,5 @@
 -- What holds of the parts of a system.
-use Rattle.std.specs.Prelude.{◌≡◌, ℕ, ◌+◌, ◌≤◌, length, slice_get}
+use Rattle.std.specs.Prelude.{◌≡◌, ℕ, ◌≤◌, slice_get}
 use Rattle.std.specs.declared.option.Option.TheVariants.{Some}
 use Rattle.dm_link.specs.declared.Link.{Link}
 use Rattle.dm_onekernel.specs.declared.boot.Boot.{Boot}

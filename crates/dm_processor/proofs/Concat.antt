@@ -102,6 +102,13 @@ rest-concat bs at w h =
     ∙ sym (concat-part bs (at / 256) (at % 256) (256 - at % 256) [] w f (omega arith))
     ∙ ap (λ (k : ℕ). take (256 - at % 256) (drop k (concat bs))) e
 
+-- the four bytes of a word stand in one block
+pub four_concat : (bs : List (List ℕ)) (at : ℕ) → AreWhole bs → at + 4 ≤ length (concat bs) → at % 4 ≡ 0 → take 4 (drop (at % 256) (get_or bs (at / 256) [])) ≡ take 4 (drop at (concat bs))
+four_concat bs at w h aligned =
+    let e : 256 * (at / 256) + at % 256 ≡ at = omega arith in
+    let f : at / 256 < length bs = block_below bs at w (omega arith) in
+    sym (concat-part bs (at / 256) (at % 256) 4 [] w f (omega arith)) ∙ ap (λ (k : ℕ). take 4 (drop k (concat bs))) e
+
 -- how long the rest of a block is
 pub length-rest : (bs : List (List ℕ)) (at : ℕ) → AreWhole bs → at < length (concat bs) → length (get_or bs (at / 256) []) ≡ 256
 length-rest bs at w h = AreWhole-get bs (at / 256) [] w (block_below bs at w h)

@@ -3,7 +3,7 @@ ghost use Rattle.std.specs.Prelude.{◌≡◌, ◌+◌, ◌-◌, ◌*◌, ◌%�
 ghost use Rattle.std.specs.List.{concat};
 ghost use Rattle.dm_processor.specs.WholeBlocks.{AreWhole};
 
-use crate::flat_bytes::write_at;
+use crate::flat_bytes::{four_at, write_at};
 use crate::storage::Cells;
 use dm_memory::{NoMemory, repeated};
 use std::alloc::Global;
@@ -45,6 +45,17 @@ fn byte_at(blocks: &[[u8; 256]], at: usize) -> u8
     ensures { result ≡ slice_index (concat blocks.now) at }
 {
     blocks[at / BLOCK][at % BLOCK]
+}
+
+/// The four bytes at a place of a word in a list of blocks: they stand in one block.
+#[tactic(auto, using(crate::proofs::Concat::places, crate::proofs::Concat::four_concat))]
+fn four_in(blocks: &[[u8; 256]], at: usize) -> [u8; 4]
+    requires whole { AreWhole blocks.now }
+    requires within { at + 4 ≤ length (concat blocks.now) }
+    requires aligned { at % 4 ≡ 0 }
+    ensures { result ≡ take 4 (drop at (concat blocks.now)) }
+{
+    four_at(&blocks[at / BLOCK], at % BLOCK)
 }
 
 /// Changes the byte at a place in a list of blocks.
@@ -168,6 +179,10 @@ impl Cells for Memory {
 
     fn byte(&self, at: u32) -> u8 {
         byte_at(&self.blocks, at as usize)
+    }
+
+    fn four_bytes(&self, at: u32) -> [u8; 4] {
+        four_in(&self.blocks, at as usize)
     }
 
     fn set_byte(&mut self, at: u32, value: u8) {

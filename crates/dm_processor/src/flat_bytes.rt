@@ -49,6 +49,10 @@ impl Cells for Flat {
         self.bytes[at as usize]
     }
 
+    fn four_bytes(&self, at: u32) -> [u8; 4] {
+        four_at(&self.bytes, at as usize)
+    }
+
     fn set_byte(&mut self, at: u32, value: u8) {
         self.bytes[at as usize] = value;
     }
@@ -61,6 +65,15 @@ impl Cells for Flat {
     fn copy_in(&mut self, at: u32, from: &[u8]) {
         write_at(&mut self.bytes, at as usize, from);
     }
+}
+
+/// The four bytes at a place.
+#[tactic(auto, using(crate::proofs::Words::take_four))]
+pub fn four_at(bytes: &[u8], at: usize) -> [u8; 4]
+    requires { at + 4 ≤ length bytes.now }
+    ensures { result ≡ take 4 (drop at bytes.now) }
+{
+    [bytes[at], bytes[at + 1], bytes[at + 2], bytes[at + 3]]
 }
 
 /// Copies all of a slice to a place in another.

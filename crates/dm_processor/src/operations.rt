@@ -6,21 +6,6 @@ use crate::registers::{Fault, REGISTERS, Regs, Stepped};
 use crate::storage::Cells;
 use byteorder::{BigEndian, ByteOrder};
 
-/// The four bytes at an address of a word.
-#[tactic(auto, using(crate::proofs::Words::take_four))]
-fn four_bytes<C: Cells>(cells: &C, at: u32) -> [u8; 4]
-    requires within { at + 4 ≤ length (C.bytes cells.now) }
-    requires aligned { at % 4 ≡ 0 }
-    ensures { result ≡ take 4 (drop at (C.bytes cells.now)) }
-{
-    [
-        cells.byte(at),
-        cells.byte(at + 1),
-        cells.byte(at + 2),
-        cells.byte(at + 3),
-    ]
-}
-
 /// The word at an address of one.
 #[tactic(auto, using(crate::proofs::Words::words))]
 fn word<C: Cells>(cells: &C, at: u32) -> u32
@@ -28,7 +13,7 @@ fn word<C: Cells>(cells: &C, at: u32) -> u32
     requires aligned { at % 4 ≡ 0 }
     ensures { result ≡ word_at (C.bytes cells.now) at }
 {
-    BigEndian::read_u32(&four_bytes(cells, at))
+    BigEndian::read_u32(&cells.four_bytes(at))
 }
 
 /// Changes the word at an address.
@@ -83,7 +68,7 @@ pub fn fetch<C: Cells>(pc: u32, cells: &C) -> Result<[u8; 4], Fault>
     ensures err { IfErr result (λ fault. (row : Row) → word_row (C.bytes cells.now) pc row ≡ Faults fault) }
 {
     match word_address(cells, u64::from(pc)) {
-        Ok(at) => Ok(four_bytes(cells, at)),
+        Ok(at) => Ok(cells.four_bytes(at)),
         Err(fault) => Err(fault),
     }
 }

@@ -1,5 +1,5 @@
 //! What a memory is.
-ghost use Rattle.std.specs.Prelude.{◌≡◌, ◌+◌, ◌≤◌, ◌<◌, ◌++◌, ℕ, List, drop, length, slice_index, slice_set, take};
+ghost use Rattle.std.specs.Prelude.{◌≡◌, ◌+◌, ◌%◌, ◌≤◌, ◌<◌, ◌++◌, ℕ, List, drop, length, slice_index, slice_set, take};
 
 /// A memory of bytes at the addresses 0, 1, 2 and so on. No method takes memory.
 pub trait Cells {
@@ -13,6 +13,12 @@ pub trait Cells {
     fn byte(&self, at: u32) -> u8
         requires { at < length (bytes self.now) }
         ensures { result ≡ slice_index (bytes self.now) at };
+
+    /// The four bytes at an address of a word.
+    fn four_bytes(&self, at: u32) -> [u8; 4]
+        requires within { at + 4 ≤ length (bytes self.now) }
+        requires aligned { at % 4 ≡ 0 }
+        ensures { result ≡ take 4 (drop at (bytes self.now)) };
 
     /// Changes the byte at an address.
     fn set_byte(&mut self, at: u32, value: u8)

@@ -6,12 +6,12 @@ pub use Rattle.dm_draw.proofs.Within.{directives_count, drawn_below}
 unfoldable pub use Rattle.dm_draw.specs.Directives.{directive_drawn}
 unfoldable pub use Rattle.dm_draw.specs.Own.{own_drawn}
 pub use Rattle.dm_statebytes.specs.Servers.{Counts, by_rules, only_read, server_front}
+pub use Rattle.dm_onekernel.proofs.Lawful.{few_machines}
 pub use Rattle.dm_switchboard.specs.Packed.{board, name_behind, named_behind, names, names_behind, read_names}
 unfoldable pub use Rattle.dm_switchboard.specs.Packed.{board_of_bytes}
 pub use Rattle.dm_procman.specs.Packed.{manager_of_bytes}
 pub use Rattle.dm_resident.specs.Residents.{moved as moved_on}
 pub use Rattle.dm_migrate.proofs.Names.{is_process_coming, moved_board, moved_manager, server_of_bytes}
-pub use Rattle.dm_kernel.proofs.LawfulStart.{few_machines}
 pub use Rattle.dm_kernel.proofs.Names.{IsLawfulResident, queue_of}
 pub use Rattle.dm_law_moves.proofs.Open.Moves.{leads_of}
 pub use Rattle.dm_law_moves.proofs.Settles.Rests.EndsRested.{ends_rested_so}

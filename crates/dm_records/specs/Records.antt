@@ -8,8 +8,6 @@ use Rattle.dm_link.specs.declared.Pid.{Pid}
 use Rattle.dm_link.specs.Names.{pid_eq, pid_cmp}
 use Rattle.dm_records.specs.declared.record.Record.{Record}
 use Rattle.dm_records.specs.declared.record.Record.TheVariants.{Here, Frozen, Incoming, Forward}
-use Rattle.dm_records.specs.declared.record.Whereabouts.{Whereabouts}
-use Rattle.dm_records.specs.declared.record.Whereabouts.TheVariants as where_
 use Rattle.dm_records.specs.declared.records.Place.{Place}
 use Rattle.dm_records.specs.declared.records.Records.{Records}
 use Rattle.dm_records.specs.Machines.{has}
@@ -52,13 +50,6 @@ without_preds preds p q n = if pid_eq p q then false else preds q n
 -- the predecessors stay
 abbrev pub KeepsPreds : {H L A : Type 0} → Records H L A → Records H L A → Type 0
 KeepsPreds before after = (q : Pid) (n : ℕ) → pred_at after q n ≡ pred_at before q n
-
--- where a record says that its process is
-abbrev pub whereabouts_of : {H L A : Type 0} → Record H L A → Whereabouts
-whereabouts_of (Here process) = where_.Here
-whereabouts_of (Frozen leaving) = where_.Frozen
-whereabouts_of (Incoming arriving) = where_.Incoming
-whereabouts_of (Forward machine moves) = where_.Forward machine moves
 
 -- the process, where it is here
 abbrev pub process_of : {H L A : Type 0} → Record H L A → Option H

@@ -8,5 +8,5 @@ pub mod records;
 
 pub use dm_memory::NoMemory;
 pub use machines::Machines;
-pub use record::{Record, Whereabouts};
+pub use record::Record;
 pub use records::Records;

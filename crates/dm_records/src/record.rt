@@ -3,7 +3,7 @@ ghost use Rattle.std.specs.Prelude.{◌≡◌};
 ghost use Rattle.std.specs.Borrow.{sem};
 ghost use Rattle.std.specs.Option.{option_copied, option_copied_mut};
 ghost use Rattle.dm_records.specs.Lent.{LendsArriving, LendsLeaving, LendsProcess};
-ghost use Rattle.dm_records.specs.Records.{arriving_of, leaving_of, process_of, whereabouts_of};
+ghost use Rattle.dm_records.specs.Records.{arriving_of, leaving_of, process_of};
 
 /// What a machine knows of a process: `H` is a process that is here, `L` one that leaves, `A` one that arrives.
 #[derive(Drop)]
@@ -18,30 +18,7 @@ pub enum Record<H, L, A> {
     Forward { at: u8, moves: u32 },
 }
 
-/// Which of these a machine knows.
-#[derive(Clone, Copy)]
-pub enum Whereabouts {
-    Here,
-    Frozen,
-    Incoming,
-    Forward { at: u8, moves: u32 },
-}
-
 impl<H, L, A> Record<H, L, A> {
-    /// Where it says that its process is.
-    pub fn whereabouts(&self) -> Whereabouts
-        ensures { result ≡ whereabouts_of self.now }
-    {
-        match self {
-            Record::Here(_) => Whereabouts::Here,
-            Record::Frozen(_) => Whereabouts::Frozen,
-            Record::Incoming(_) => Whereabouts::Incoming,
-            Record::Forward { at, moves } => Whereabouts::Forward {
-                at: *at,
-                moves: *moves,
-            },
-        }
-    }
     /// The process, if it is here, for writing.
     pub fn here_mut(&mut self) -> Option<&mut H>
         ensures* writes_back { sem 𝓛 (LendsProcess H.row L.row A.row self.entry result) }

@@ -1,14 +1,14 @@
 //! The records of a machine, by process.
-ghost use Rattle.std.specs.Prelude.{IfErr, IsSome, None, OnErr, OnOk, Some, ℕ, ◌≡◌, ◌<◌, ◌↔◌, false, option_map};
+ghost use Rattle.std.specs.Prelude.{IfErr, IsSome, None, OnErr, OnOk, Some, ℕ, ◌≡◌, ◌<◌, false};
 ghost use Rattle.std.specs.Borrow.{sem};
 ghost use Rattle.std.specs.Option.{option_copied, option_copied_mut};
 ghost use Rattle.dm_link.specs.declared.Pid.{Pid};
 ghost use Rattle.dm_records.specs.Lent.{LendsFrozen, LendsHere, LendsIncoming, LendsRecord};
 ghost use Rattle.dm_records.specs.Machines.{has};
-ghost use Rattle.dm_records.specs.Records.{HasPlace, Grows, KeepsPreds, at, frozen_of, here_of, incoming_of, pred_at, whereabouts_of, with_pred, with_record, without_preds, without_record};
+ghost use Rattle.dm_records.specs.Records.{HasPlace, Grows, KeepsPreds, at, frozen_of, here_of, incoming_of, pred_at, with_pred, with_record, without_preds, without_record};
 
 use crate::machines::Machines;
-use crate::record::{Record, Whereabouts};
+use crate::record::Record;
 use dm_link::{MACHINES, Pid};
 use dm_memory::{NoMemory, Parcel, insert_or_return};
 use std::alloc::Global;
@@ -45,17 +45,6 @@ impl<H, L, A> Records<H, L, A> {
         }
     }
 
-    /// Where a process is, as far as this machine knows; nothing exactly where there is no record.
-    pub fn whereabouts(&self, pid: Pid) -> Option<Whereabouts>
-        ensures place { result ≡ option_map whereabouts_of (at self.now pid) }
-        ensures known { IsSome result ↔ IsSome (at self.now pid) }
-    {
-        match self.get(pid) {
-            Some(record) => Some(record.whereabouts()),
-            None => None,
-        }
-    }
-
     /// The record of a process, if there is one.
     pub fn get(&self, pid: Pid) -> Option<&Record<H, L, A>>
         ensures { option_copied result ≡ at self.now pid }
@@ -64,14 +53,6 @@ impl<H, L, A> Records<H, L, A> {
             Some(place) => place.get().known.as_ref(),
             None => None,
         }
-    }
-
-    /// The record of a process that has one.
-    pub fn borrow(&self, pid: Pid) -> &Record<H, L, A>
-        requires { IsSome (at self.now pid) }
-        ensures { at self.now pid ≡ Some result.now }
-    {
-        self.get(pid).unwrap()
     }
 
     /// A process that is here.

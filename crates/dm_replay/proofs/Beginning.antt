@@ -25,7 +25,7 @@ use Rattle.dm_replay.specs.declared.kernel.Kernel.{Kernel}
 use Rattle.dm_replay.specs.Sound.{IsOf, IsSound, first_count}
 use Rattle.dm_replay.specs.State.{one_kernel}
 use Rattle.dm_replay.specs.Steps.{Stays}
-use Rattle.dm_replay.proofs.Lawful.{links_lawfully, links_of, few_machines, home_of}
+use Rattle.dm_onekernel.proofs.Lawful.{links_lawfully, links_of, few_machines, home_of}
 
 -- a process of the boot file can be made, and its links can be enclosed
 pub record IsFine (b : Boot) (x : BootProcess) : Type 0 where

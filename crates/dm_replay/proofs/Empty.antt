@@ -26,7 +26,7 @@ use Rattle.dm_replay.specs.Named.{held}
 use Rattle.dm_replay.specs.Sound.{IsOf, IsSound}
 use Rattle.dm_replay.specs.State.{one_kernel, plain_held, plain_note}
 use Rattle.dm_replay.proofs.Beginning.{few_of_home}
-use Rattle.dm_replay.proofs.Lawful.{few_machines, home_of}
+use Rattle.dm_onekernel.proofs.Lawful.{few_machines, home_of}
 
 -- so much of each number below n
 abbrev sum_to : ℕ → (ℕ → ℕ) → ℕ

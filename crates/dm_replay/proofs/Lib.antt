@@ -10,8 +10,6 @@ pub mod Sending
 pub mod Receives
 pub mod Completing
 pub mod Keeping
-pub mod Making
-pub mod Lawful
 pub mod Beginning
 pub mod Empty
 pub mod Standing

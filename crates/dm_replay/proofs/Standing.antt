@@ -20,7 +20,7 @@ use Rattle.dm_onekernel.specs.Plain.{plain_process}
 use Rattle.dm_onekernel.specs.Service.{with_created}
 use Rattle.dm_onekernel.specs.Start.{begun, slots_with}
 use Rattle.dm_replay.specs.declared.kernel.Kernel.{Kernel}
-use Rattle.dm_replay.specs.Begun.{child_of}
+use Rattle.dm_onekernel.specs.Child.{child_of}
 use Rattle.dm_replay.specs.Sound.{IsFit, IsSound, first_count}
 use Rattle.dm_replay.specs.State.{one_kernel}
 use Rattle.dm_replay.proofs.Taken.{fit_with, lives_with}

@@ -6,19 +6,12 @@ use Rattle.dm_message.specs.declared.What.{What}
 use Rattle.dm_message.specs.declared.What.TheVariants as what
 use Rattle.dm_link.specs.declared.Link.{Link}
 use Rattle.dm_link.specs.declared.Pid.{Pid}
-use Rattle.dm_process.specs.declared.process.Process.{Process}
-use Rattle.dm_process.specs.Begun.{begun_process}
 use Rattle.dm_onekernel.specs.declared.boot.Boot.{Boot}
 use Rattle.dm_onekernel.specs.declared.boot.BootImage.{BootImage}
-use Rattle.dm_onekernel.specs.Boot.{slots_of}
 use Rattle.dm_onekernel.specs.declared.boot.BootProcess.{BootProcess}
 use Rattle.dm_onekernel.specs.Boot.{starting_at}
 use Rattle.dm_onekernel.specs.Kernel.{OneKernel}
-use Rattle.dm_onekernel.specs.Start.{life_at, memory_of, slots_with, start}
-
--- a process of this image with these links from slot 0 on, which hasn't executed anything yet
-abbrev pub child_of : Boot → Pid → BootImage → List Link → Process
-child_of b p i links = begun_process p (memory_of i) (slots_with (slots_of b.format) links)
+use Rattle.dm_onekernel.specs.Start.{life_at, start}
 
 -- the image and the links that a request to make a process names, if it is one and the image is there
 abbrev pub asked_in : List BootImage → What → Option (BootImage × List Link)

@@ -1,17 +1,16 @@
 //! How processes are made: those of the boot file, and those that are asked for.
-ghost use Rattle.std.specs.Prelude.{◌≡◌, ◌+◌, ◌<◌, ◌≤◌, ◌⊎◌, ◌&&◌, ◌==◌, IfOk, OnOk, Some, length, option_map, true};
+ghost use Rattle.std.specs.Prelude.{◌≡◌, ◌+◌, ◌<◌, ◌≤◌, ◌&&◌, ◌==◌, OnOk, Some, length, option_map, true};
 ghost use Rattle.dm_link.specs.Lawful.{IsLawfulEnclosed};
 ghost use Rattle.dm_link.specs.Plain.{plain_link};
 ghost use Rattle.dm_onekernel.specs.Boot.{IsValid, first_number, image_is_valid, slots_of};
 ghost use Rattle.dm_onekernel.specs.Service.{with_created};
-ghost use Rattle.dm_onekernel.specs.Start.{slots_with};
 ghost use Rattle.dm_onekernel.specs.Step.{step};
 ghost use Rattle.dm_onekernel.specs.declared.label.Label.TheVariants as label_;
 ghost use Rattle.std.specs.List.{All};
 ghost use Rattle.std.specs.Prelude.{map, slice_index};
 ghost use Rattle.dm_link.specs.Names.{pid_eq, pid_of};
 ghost use Rattle.dm_replay.specs.Answers.{Gives};
-ghost use Rattle.dm_replay.specs.Begun.{asked_in, child_of, is_kernel};
+ghost use Rattle.dm_replay.specs.Begun.{asked_in, is_kernel};
 ghost use Rattle.dm_replay.specs.Sound.{IsSound, first_count};
 ghost use Rattle.dm_replay.specs.State.{one_kernel};
 ghost use Rattle.dm_replay.specs.Steps.{Stays};
@@ -21,12 +20,9 @@ use crate::kernel::{HERE, Kernel, MOST_LABELS, Refusal};
 use crate::life::Life;
 use dm_datamove::answer;
 use dm_link::{FIRST_NUMBER, Link, MACHINES, Pid};
-use dm_linktable::{FEW_SLOTS, MOST_SLOTS, Table};
 use dm_memory::NoMemory;
 use dm_message::{MsgId, What};
-use dm_onekernel::{Boot, BootImage};
-use dm_process::Process;
-use std::alloc::Global;
+use dm_onekernel::{Boot, BootImage, child_of};
 
 /// Whether it is the kernel of a machine.
 fn is_kernel(boot: &Boot, pid: Pid) -> bool
@@ -55,36 +51,6 @@ fn asked_for<'a>(boot: &'a Boot, what: &'a What) -> Option<(&'a BootImage, &'a [
         }
         _ => None,
     }
-}
-
-/// A process of an image with these links from slot 0 on, which hasn't executed anything yet.
-pub(crate) fn child_of(
-    alloc: Global,
-    boot: &Boot,
-    pid: Pid,
-    image: &BootImage,
-    links: &[Link],
-) -> Result<Process, NoMemory>
-    requires image { image_is_valid image.now ≡ true }
-    requires links { length links.now ≤ slots_of boot.now.format }
-    ensures { IfOk result (λ x. x ≡ child_of boot.now pid image.now links.now) }
-{
-    let table = table_of(alloc, links, boot.format.slots())?;
-    let bytes = image.bytes.as_slice();
-    Ok(Process::new(alloc, pid, bytes, image.blocks, table)?)
-}
-
-/// A table with these links from slot 0 on.
-fn table_of(alloc: Global, links: &[Link], slots: u8) -> Result<Table, NoMemory>
-    requires slots { (slots ≡ FEW_SLOTS) ⊎ (slots ≡ MOST_SLOTS) }
-    requires fits { length links.now ≤ slots }
-    ensures { IfOk result (λ table. table ≡ slots_with slots links.now) }
-{
-    let mut table = Table::new(alloc, slots)?;
-    for link in links {
-        table.put(*link).unwrap();
-    }
-    Ok(table)
 }
 
 impl Kernel {

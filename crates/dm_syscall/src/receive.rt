@@ -95,7 +95,7 @@ fn receive_refusal(table: &Table, cap: u32, body: &[u8], links: &[Link]) -> Opti
 {
     if (cap as usize) < body.len() {
         Some(Reply::TooLong)
-    } else if usize::from(table.free()) < links.len() {
+    } else if !links.is_empty() && usize::from(table.free()) < links.len() {
         Some(Reply::TableFull)
     } else {
         None

@@ -149,7 +149,8 @@ fn run_files_once<P: Program>(
     calls: &Cell<u64>,
     out: MemSink,
 ) -> Result<Done, AllocError> {
-    let mut shelf = RealShelf::new(Once::new(rt, calls, failing));
+    let files = Once::new(rt, calls, failing);
+    let mut shelf = RealShelf::new(&files);
     run_over(rt.alloc(), program, FIRST, &mut shelf, out)
 }
 

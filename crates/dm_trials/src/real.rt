@@ -1,15 +1,15 @@
 //! The real shelf and sink by themselves.
 
 use anyhow::Result;
-use dm_outside::{Failed, RealShelf, RealSink, Shelf, Sink};
+use dm_outside::{Failed, Opens, RealShelf, RealSink, Shelf, Sink};
 use std::alloc::{AllocError, Global};
-use std::fs::Files;
 use std::io::{self, Write};
 
 /// Reads of real files: on in one, from the start of another, those that don't go on where the last one ended, a name with a blank
 /// at its end, a file that can't be opened for writing, since it runs, and names that are nearly those of a file: with a capital, with
-/// a blank before it, in another folder, and the one that elsewhere stands for standard input.
-const READS: [(&str, u64); 17] = [
+/// a blank before it, in another folder, the one that elsewhere stands for standard input, with a slash or a line feed at its end, and
+/// as an address.
+const READS: [(&str, u64); 20] = [
     ("first", 0),
     ("first", 4),
     ("first", 6),
@@ -27,13 +27,19 @@ const READS: [(&str, u64); 17] = [
     (" first", 0),
     ("../first", 0),
     ("-", 0),
+    ("first/", 0),
+    ("first\n", 0),
+    ("file:first", 0),
 ];
 
 /// How often "./" stands before "first" in the longest name that the system opens: 4,095 bytes.
 const MOST_STEPS: usize = 2_045;
 
-/// More bytes than any picture has, and more than two megabytes.
-const LARGE: usize = 2_097_153;
+/// So many parts of so many bytes are more than the lines at the end of sixteen large machines, which are written as one piece: 33
+/// megabytes, and a part.
+const PARTS: usize = 33_793;
+
+const PART: usize = 1_024;
 
 /// Reads two files of data/ in turn, those that aren't there, and one by long names.
 pub fn read_files(rt: &HostRuntime) -> Result<()> {
@@ -41,7 +47,7 @@ pub fn read_files(rt: &HostRuntime) -> Result<()> {
 }
 
 /// Does the reads over a shelf of files.
-fn read_all<R: Files>(rt: &HostRuntime, shelf: &mut RealShelf<R>) -> Result<()> {
+fn read_all<R: Opens>(rt: &HostRuntime, shelf: &mut RealShelf<R>) -> Result<()> {
     say_reads(rt, shelf)?;
     say_long_read(rt, shelf, MOST_STEPS)?;
     say_long_read(rt, shelf, MOST_STEPS + 1)?;
@@ -88,7 +94,8 @@ fn say_named_read<F: Shelf>(rt: &HostRuntime, shelf: &mut F, name: &str) -> io::
 /// Writes a line, and nothing; and a large piece, into memory.
 pub fn write_out(rt: &HostRuntime) -> Result<()> {
     write_both(rt, &mut RealSink::new(io::writer(rt)))?;
-    let piece = ".".repeat(rt.alloc(), LARGE)?;
+    let part = ".".repeat(rt.alloc(), PART)?;
+    let piece = part.as_str().repeat(rt.alloc(), PARTS)?;
     Ok(say_large_write(rt, piece.as_bytes())?)
 }
 

@@ -97,9 +97,9 @@ impl Packets {
         ensures err { OnErr result (self.new ≡ self.old) }
     {
         let number = self.ends.len() as u64;
-        room_for(&mut self.ends, 1, FEW)?;
-        room_for(&mut self.marks, 1, FEW_MARKS)?;
-        room_for(&mut self.bytes, bytes.len(), FEW_BYTES)?;
+        room_for(&mut self.ends, &[0], FEW)?;
+        room_for(&mut self.marks, &[false], FEW_MARKS)?;
+        room_for(&mut self.bytes, bytes, FEW_BYTES)?;
         extend_from_slice(&mut self.bytes, bytes)?;
         self.ends.push_reserved(self.bytes.len());
         self.marks.push_reserved(false);

@@ -1,5 +1,5 @@
 //! The wires of all pairs of machines.
-ghost use Rattle.std.specs.Prelude.{IfNone, IfOk, IfSome, None, OnErr, OnOk, [], false, length, option_map, position, slice_index_or, vec_len, ◌*◌, ◌+◌, ◌<◌, ◌^◌, ◌≡◌, ◌≤◌, ℕ};
+ghost use Rattle.std.specs.Prelude.{IfNone, IfOk, IfSome, None, OnErr, OnOk, [], false, length, option_map, position, slice_index_or, true, vec_len, ◌*◌, ◌+◌, ◌<◌, ◌==◌, ◌^◌, ◌≡◌, ◌≤◌, ℕ};
 ghost use Rattle.dm_wire.specs.Sent.{is_unseen};
 ghost use Rattle.dm_records.specs.Machines.{has};
 ghost use Rattle.dm_wire.specs.Wire.{StaysClosed, after_mark, packets_on};
@@ -75,10 +75,13 @@ fn mark(pairs: &mut Vec<Packets>, a: u8, b: u8, number: u64)
     pairs[place(a, b)].mark(number);
 }
 
-/// The senders, of whom `a` stays one only where it has such receivers.
+/// The senders, of whom `a` stays one exactly where it has such receivers.
 fn still_open(senders: Machines, a: u8, receivers: Machines) -> Machines
     requires { a < MACHINES }
-    ensures { (n : ℕ) → n < MACHINES → has result n ≡ false → StaysClosed senders a receivers n }
+    ensures stays { (n : ℕ) → n < MACHINES → has result n ≡ false → StaysClosed senders a receivers n }
+    ensures others { (n : ℕ) → n < MACHINES → (a == n) ≡ false → has result n ≡ has senders n }
+    ensures open { (b : ℕ) → has receivers b ≡ true → has result a ≡ has senders a }
+    ensures closed { ((b : ℕ) → has receivers b ≡ false) → has result a ≡ false }
 {
     match receivers.first_from(0) {
         Some(_) => senders,

@@ -17,7 +17,8 @@ use Rattle.dm_procman.specs.Managing.{starting}
 use Rattle.dm_resident.specs.declared.Resident.{Resident}
 use Rattle.dm_resident.specs.declared.Resident.TheVariants as resident
 use Rattle.dm_kernel.specs.State.{KernelKnown, KernelState, process_in}
-use Rattle.dm_kernel.specs.Begun.{bare, begins_process, child_of, empty, opened, with_child, with_servers}
+use Rattle.dm_kernel.specs.Begun.{bare, begins_process, empty, opened, with_child, with_servers}
+use Rattle.dm_onekernel.specs.Child.{child_of}
 use Rattle.dm_world.specs.World.{first_world}
 use Rattle.dm_explore.specs.Finds.{is_stuck, rests}
 use Rattle.dm_explore.specs.Places.{first_place, sight}

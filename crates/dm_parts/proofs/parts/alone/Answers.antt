@@ -1,4 +1,4 @@
-use Rattle.std.proofs.Common.{◌≡◌, ◌∙◌, ◌-◌, ◌+◌, ◌++◌, ap, sym, arith}
+use Rattle.std.proofs.Common.{◌∙◌, ◌-◌, ◌+◌, ◌++◌, ap, sym}
 use Rattle.dm_parts.specs.Parts.{alone}
 use Rattle.dm_parts.proofs.Loops.{alone-last, alone-more}
 use Rattle.dm_parts.proofs.parts.alone.Goals as goal

@@ -1,4 +1,4 @@
-use Rattle.std.proofs.Common.{◌≡◌, ◌∙◌, ◌+◌, ap, sym, drop}
+use Rattle.std.proofs.Common.{◌∙◌, ◌+◌, ap, sym, drop}
 use Rattle.dm_parts.specs.Parts.{with_link, with_links}
 use Rattle.dm_parts.proofs.Loops.{links-end, links-more}
 use Rattle.dm_parts.proofs.parts.join_links.Goals as goal

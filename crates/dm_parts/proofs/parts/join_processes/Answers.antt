@@ -1,4 +1,4 @@
-use Rattle.std.proofs.Common.{◌≡◌, ◌∙◌, ◌+◌, ap, sym, drop}
+use Rattle.std.proofs.Common.{◌∙◌, ◌+◌, ap, sym, drop}
 use Rattle.dm_parts.specs.Parts.{with_links, with_processes}
 use Rattle.dm_parts.proofs.Loops.{processes-end, processes-more}
 use Rattle.dm_parts.proofs.parts.join_processes.Goals as goal

@@ -1,4 +1,4 @@
-use Rattle.dm_processor.proofs.Names.{◌*◌, ◌≤◌, ap, arith}
+use Rattle.dm_processor.proofs.Names.{◌*◌, ap, arith}
 use Rattle.dm_processor.proofs.Copies.{image_in}
 use Rattle.dm_processor.proofs.flat_bytes.Flat.from_image.Goals as goal
 

@@ -7,7 +7,7 @@ use Rattle.dm_onekernel.specs.declared.boot.BootImage.{BootImage}
 use Rattle.dm_onekernel.specs.Service.{with_created}
 use Rattle.dm_replay.specs.State.{one_kernel}
 use Rattle.dm_replay.proofs.Beginning.{image_at, image_there}
-use Rattle.dm_replay.proofs.Making.{image_fits}
+use Rattle.dm_onekernel.proofs.Making.{image_fits}
 use Rattle.dm_replay.proofs.kernel.Kernel.begin.Goals as goal
 
 pub stand-requires-clause-image : goal.stand-requires-clause-image

@@ -20,8 +20,8 @@ use Rattle.dm_replay.specs.Sound.{IsSound}
 use Rattle.dm_replay.specs.State.{one_kernel, put_in}
 use Rattle.dm_replay.proofs.Bag.{enters, is_plain}
 use Rattle.dm_replay.proofs.Giving.{becomes_gives}
-use Rattle.dm_replay.proofs.Lawful.{enough}
-use Rattle.dm_replay.proofs.Making.{image_fits}
+use Rattle.dm_onekernel.proofs.Lawful.{enough}
+use Rattle.dm_onekernel.proofs.Making.{image_fits}
 use Rattle.dm_replay.proofs.MoveRows.{answer_lawfully, is_asked, made_home, made_row, made_so, said}
 use Rattle.dm_replay.proofs.Rows.{passes, refused, weaker}
 use Rattle.dm_replay.proofs.kernel.Kernel.create.Goals as goal

@@ -2,7 +2,7 @@ use Rattle.std.specs.Prelude.{◌+◌, slice_index, slice_set}
 use Rattle.std.proofs.Common.{ap, arith, refl, subst, sym}
 use Rattle.dm_replay.specs.declared.kernel.Kernel.{Kernel}
 use Rattle.dm_replay.specs.Sound.{IsFit}
-use Rattle.dm_replay.proofs.Lawful.{child_lawfully}
+use Rattle.dm_onekernel.proofs.Lawful.{child_lawfully}
 use Rattle.dm_replay.proofs.Standing.{sound_stood, state_stood}
 use Rattle.dm_replay.proofs.kernel.Kernel.stand.Goals as goal
 

@@ -3,7 +3,7 @@ use Rattle.std.specs.Prelude.{◌-◌, List, length}
 use Rattle.std.proofs.Common.{arith, subst, sym}
 use Rattle.dm_onekernel.specs.declared.boot.BootProcess.{BootProcess}
 use Rattle.dm_replay.proofs.Beginning.{HasBegun, begins_next, next_fine, none_begun}
-use Rattle.dm_replay.proofs.Lawful.{few_machines}
+use Rattle.dm_onekernel.proofs.Lawful.{few_machines}
 use Rattle.dm_replay.proofs.kernel.Kernel.start.Goals as goal
 
 pub loop-left-init : goal.loop-left-init

@@ -1,0 +1,14 @@
+pub mod Numbers
+pub mod Ways
+pub mod Calling
+pub mod Serving
+pub mod Taking
+pub mod Steps
+pub mod Again
+pub mod Runs
+pub mod Beside
+pub mod Past
+pub mod Sparing
+pub mod Alone
+pub mod Acting
+pub mod Firsts

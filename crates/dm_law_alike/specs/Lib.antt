@@ -1,0 +1,4 @@
+pub mod Alike
+pub mod Private
+pub mod Acting
+pub mod Laws

@@ -1,0 +1,35 @@
+//! What a search of all that can happen may leave out. Numbers of messages mean nothing: two kernels without machines are twins
+//! where an order-keeping renaming of each sender's numbers takes one to the other, and what one does, the other does too. And
+//! a process that nobody can reach goes on alone: what it does by itself changes places with all that isn't its own.
+ghost use Rattle.dm_law_alike.specs.Laws.{ActsComeFirst, ActsGoFirst, OwnAreActs, RunsAreTwins, SparedStays, TwinsOfTwins};
+
+/// Each run from a kernel that a boot file leads to is one of its twin, label by label, under the names there.
+pub fn runs_are_twins()
+    ensures { RunsAreTwins }
+{}
+
+/// The twin of a twin is a twin.
+pub fn twins_of_twins()
+    ensures { TwinsOfTwins }
+{}
+
+/// What a process does by itself, and a run in which nothing is its own: each is one behind the other too, and both ways lead to
+/// the same kernel.
+pub fn acts_go_first()
+    ensures { ActsGoFirst }
+{}
+
+/// What a process does by itself at the end of a run in which nothing is its own can come first.
+pub fn acts_come_first()
+    ensures { ActsComeFirst }
+{}
+
+/// A process that nobody can reach, and that is ready, stays so, and as it is, whatever is done that isn't its own.
+pub fn spared_stays()
+    ensures { SparedStays }
+{}
+
+/// All that is its own then is done by itself: it executes.
+pub fn own_are_acts()
+    ensures { OwnAreActs }
+{}

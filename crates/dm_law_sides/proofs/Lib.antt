@@ -1,0 +1,9 @@
+pub mod Further
+pub mod Changes
+pub mod Calls
+pub mod Servers
+pub mod Runs
+pub mod Printed
+pub mod Files
+pub mod Worked
+pub mod Tenants
