@@ -1,4 +1,5 @@
 pub mod Assembled
+pub mod Calls
 pub mod Forms
 pub mod Labels
 pub mod Lines
