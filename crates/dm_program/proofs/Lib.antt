@@ -6,7 +6,6 @@ mod ByRule
 mod NoWords
 mod Pieces
 mod Sound
-mod SoFar
 mod RunsChecked
 mod DrillsChecked
 mod OwnDrilled

@@ -7,4 +7,3 @@ pub mod Laws
 pub mod OwnLaws
 pub mod Labels
 pub mod Theorem
-pub mod SoFar
