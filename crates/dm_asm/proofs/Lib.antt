@@ -5,6 +5,7 @@ pub mod Defined
 pub mod Meant
 pub mod Labelled
 pub mod Sizes
+mod Expanding
 mod Stands
 mod Worked
 mod WorkedCalls

@@ -1,6 +1,7 @@
 //! What a search of all that can happen may leave out. Numbers of messages mean nothing: two kernels without machines are twins
 //! where an order-keeping renaming of each sender's numbers takes one to the other, and what one does, the other does too. And
 //! a process that nobody can reach goes on alone: what it does by itself changes places with all that isn't its own.
+ghost use Rattle.dm_law_alike.specs.Closed.{ClosedIsNever};
 ghost use Rattle.dm_law_alike.specs.Laws.{ActsComeFirst, ActsGoFirst, OwnAreActs, RunsAreTwins, SparedStays, TwinsOfTwins};
 
 /// Each run from a kernel that a boot file leads to is one of its twin, label by label, under the names there.
@@ -32,4 +33,11 @@ pub fn spared_stays()
 /// All that is its own then is done by itself: it executes.
 pub fn own_are_acts()
     ensures { OwnAreActs }
+{}
+
+/// Where nothing leads out of what is kept, and none of it shows what is asked, no run of services shows it, however long it is. From
+/// a kept kernel each service leads to the twin of a kept one, or a process that nobody can reach goes on alone to the twin of one of a
+/// lower rank.
+pub fn closed_is_never()
+    ensures { ClosedIsNever }
 {}

@@ -27,6 +27,7 @@ pub mod ProtocolMoves
 pub mod LifeLines
 pub mod LetterLines
 pub mod Fair
+pub mod FairWorked
 pub mod ServerLines
 pub mod Preds
 pub mod Settles
