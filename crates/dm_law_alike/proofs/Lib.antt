@@ -14,3 +14,5 @@ pub mod Acting
 pub mod Firsts
 pub mod Services
 pub mod Closing
+pub mod Grouped
+pub mod Never

@@ -7,6 +7,10 @@ use Rattle.dm_onekernel.specs.declared.label.Label.{Label}
 use Rattle.dm_onekernel.specs.Boot.{IsValid}
 use Rattle.dm_onekernel.specs.Kernel.{OneKernel}
 use Rattle.dm_onekernel.specs.Start.{start}
+use Rattle.dm_line.specs.declared.line.Line.{Line}
+use Rattle.dm_schedule.specs.declared.Step.{Step}
+use Rattle.dm_law_rule.specs.Point.{Point, first_point, labels}
+use Rattle.dm_law_always.specs.Order.{LeadsBy}
 use Rattle.dm_law_alike.specs.Alike.{Renaming, KeepsOrder, Says, Twins}
 use Rattle.dm_law_alike.specs.Private.{IsSpared}
 use Rattle.dm_law_alike.specs.Services.{Executes, IsService, Services}
@@ -61,3 +65,8 @@ pub record IsClosed (b : Boot) (asks : Label → Bool) (rank : ℕ → ℕ) (ks 
 abbrev pub ClosedIsNever : Type 0
 ClosedIsNever =
     (b : Boot) (asks : Label → Bool) (rank : ℕ → ℕ) (ks : List OneKernel) (run : List (List Label)) (t : OneKernel) → IsValid b → IsNameless asks → IsClosed b asks rank ks → Services b.quantum (start b) run t → NoneAskedIn asks run
+
+-- nor do the lines of any run of several machines, whatever the directives are: however long it is, whatever is lost, repeated or moved
+abbrev pub NeverIsNever : Type 0
+NeverIsNever =
+    (b : Boot) (asks : Label → Bool) (rank : ℕ → ℕ) (ks : List OneKernel) (es : List Step) (ls : List Line) (pt : Point) → IsValid b → IsNameless asks → IsClosed b asks rank ks → LeadsBy b (first_point b) es ls pt → NoneAsked asks (labels ls)

@@ -1,5 +1,5 @@
 -- Services: what a kernel without machines does at once.
-use Rattle.std.specs.Prelude.{◌≡◌, ◌⊎◌, ℕ, ◌==◌, Bool, true, false, if◌then◌else◌, List, [], ◌∷◌}
+use Rattle.std.specs.Prelude.{◌≡◌, ◌⊎◌, ℕ, ◌==◌, Bool, true, false, if◌then◌else◌, List, [], ◌∷◌, ◌++◌}
 use Rattle.std.specs.declared.option.Option.{Option}
 use Rattle.std.specs.declared.option.Option.TheVariants.{None, Some}
 use Rattle.dm_link.specs.declared.Pid.{Pid}
@@ -11,7 +11,11 @@ use Rattle.dm_onekernel.specs.Calls.{Called, Replies, Sends, Waits, Outputs, End
 use Rattle.dm_onekernel.specs.Kernel.{OneKernel}
 use Rattle.dm_onekernel.specs.PlainProcess.{PlainProcess}
 use Rattle.dm_onekernel.specs.Step.{Trap, Calls, Faults, machine_of, next_row, replay, running, step, with_machine}
-use Rattle.dm_law_rule.specs.Rule.{Ran, ran}
+use Rattle.dm_onekernel.specs.declared.boot.Boot.{Boot}
+use Rattle.dm_schedule.specs.declared.Step.{Step}
+use Rattle.dm_law_rule.specs.Parts.{Spelled}
+use Rattle.dm_law_rule.specs.Point.{Point, labels}
+use Rattle.dm_law_rule.specs.Rule.{Ran, group_of, ran}
 
 -- what a process's call or fault says
 abbrev pub called_labels : Pid → ℕ → Called → List Label
@@ -72,3 +76,18 @@ IsService quantum s ls t = ((p : Pid) × Executes quantum s p ls t) ⊎ Handles 
 abbrev pub Services : ℕ → OneKernel → List (List Label) → OneKernel → Type 0
 Services quantum s [] t = s ≡ t
 Services quantum s (ls ∷ others) t = (u : OneKernel) × IsService quantum s ls u × Services quantum u others t
+
+-- the labels of services, one behind the other
+abbrev pub all_labels : List (List Label) → List Label
+all_labels [] = []
+all_labels (ls ∷ others) = ls ++ all_labels others
+
+-- labels that are those of services
+pub record AreServices (quantum : ℕ) (s : OneKernel) (ls : List Label) (t : OneKernel) : Type 0 where
+  pub services : List (List Label)
+  pub run : Services quantum s services t
+  pub labels : all_labels services ≡ ls
+
+-- what the lines of a group say of the kernel without machines are services
+abbrev pub GroupsAreServices : Type 0
+GroupsAreServices = (b : Boot) (pt : Point) (d : Step) (w : Spelled) → group_of b pt d ≡ Some w → AreServices b.quantum pt.kernel (labels w.lines) w.point.kernel

@@ -18,6 +18,8 @@ li r3 2
 li r2 move
 sys 6
 sys 6
+li r1 3
+sys 6              ; other is to move
 sys 1
 stop: .byte 2
 kill: .byte 4
@@ -29,6 +31,7 @@ blocks = 1
 text = '''
 li r1 1
 sys 7
+li r1 1
 sys 7
 '''
 [[image]]
@@ -42,7 +45,7 @@ sys 7              ; channel 1 alone
 name = "says"
 machine = 0
 image = "says"
-links = [{ to = 'hears' }, { to = 'other' }, { control = 'hears' }]
+links = [{ to = 'hears' }, { to = 'other' }, { control = 'hears' }, { control = 'other' }]
 [[process]]
 name = "hears"
 machine = 0
