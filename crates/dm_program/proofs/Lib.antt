@@ -1,8 +1,7 @@
+pub mod Names
 pub mod Runs
 mod Traces
-mod LabelsDecided
-mod LookDecided
-mod Deciding
+mod Kept
 mod ByRule
 mod NoWords
 mod Pieces

@@ -1,6 +1,6 @@
 pub mod Printed
+pub mod Commands
 pub mod Rule
-pub mod Decided
 pub mod Given
 pub mod Program
 pub mod Laws
