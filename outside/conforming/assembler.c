@@ -17,6 +17,16 @@ static const struct {
     {"sb", "rrn", 15},  {"jmp", "v", 16},  {"beq", "rrl", 17}, {"bne", "rrl", 18}, {"bltu", "rrl", 19}, {"sys", "n", 20},
 };
 
+// A call that stands with its operands: its word, its number, and how many registers it reads.
+static const struct {
+    const char *word;
+    uint8_t number;
+    uint32_t registers;
+} LINES[] = {
+    {"exit", 1, 0}, {"out", 2, 1}, {"make", 3, 5}, {"copy", 4, 1}, {"drop", 5, 1}, {"send", 6, 5}, {"receive", 7, 3}, {"move", 8, 5},
+};
+enum { NO_LINE = sizeof LINES / sizeof *LINES };
+
 static struct {
     char name[NAME];
     uint32_t value;
@@ -28,11 +38,22 @@ static void fault(const char *what, const char *word) {
     exit(1);
 }
 
+static uint32_t line_named(const char *word) {
+    uint32_t line = 0;
+    while (line < NO_LINE && strcmp(LINES[line].word, word) != 0)
+        line++;
+    return line;
+}
+
+// A number, a character, a label, or a label with a number behind it.
 static uint32_t value_of(const char *word) {
+    if (*word == '\'')
+        return (uint8_t)word[1];
     if ((*word >= 'a' && *word <= 'z') || *word == '_') {
+        size_t length = strcspn(word, "+");
         for (uint32_t i = 0; i < labels_known; i++)
-            if (strcmp(labels[i].name, word) == 0)
-                return labels[i].value;
+            if (strlen(labels[i].name) == length && strncmp(labels[i].name, word, length) == 0)
+                return labels[i].value + (word[length] ? value_of(word + length + 1) : 0);
         fault("no such label", word);
     }
     return (uint32_t)strtoul(word, NULL, strncmp(word, "0x", 2) == 0 ? 16 : 10);
@@ -55,6 +76,10 @@ static uint32_t size_of(char **words, uint32_t count) {
         return 0;
     if (strcmp(words[0], ".byte") == 0)
         return count - 1;
+    if (strcmp(words[0], ".equ") == 0)
+        return 0;
+    if (line_named(words[0]) != NO_LINE)
+        return 4 * LINES[line_named(words[0])].registers + 4;
     return strcmp(words[0], ".zero") == 0 ? value_of(words[1]) : 4;
 }
 
@@ -88,13 +113,31 @@ static void write_instruction(uint8_t *bytes, char **words, uint32_t count, uint
     fault("no such word", words[0]);
 }
 
+// Whether a word is a register: r0 to r15.
+static int is_register(const char *word) {
+    return *word == 'r' && word[1] && strspn(word + 1, "0123456789") == strlen(word + 1);
+}
+
+// The instructions that set a call's registers, each to its operand or to 0, and the call.
+static void write_call(uint8_t *bytes, char **words, uint32_t count, uint32_t line) {
+    for (uint32_t i = 1; i <= LINES[line].registers; i++, bytes += 4) {
+        int copies = i < count && is_register(words[i]);
+        uint32_t value = copies ? value_of(words[i] + 1) << 8 : i < count ? value_of(words[i]) : 0;
+        write_word(bytes, (copies ? 3u : 1u) << 24 | i << 16 | value);
+    }
+    write_word(bytes, 20u << 24 | LINES[line].number);
+}
+
 static void write_line(uint8_t *bytes, char **words, uint32_t count, uint32_t place) {
-    if (strcmp(words[0], ".byte") == 0) {
+    uint32_t line = line_named(words[0]);
+    if (line != NO_LINE) {
+        write_call(bytes, words, count, line);
+    } else if (strcmp(words[0], ".byte") == 0) {
         for (uint32_t i = 1; i < count; i++)
             bytes[i - 1] = (uint8_t)value_of(words[i]);
     } else if (strcmp(words[0], ".word") == 0) {
         write_word(bytes, value_of(words[1]));
-    } else if (strcmp(words[0], ".zero") != 0) {
+    } else if (strcmp(words[0], ".zero") != 0 && strcmp(words[0], ".equ") != 0) {
         write_instruction(bytes, words, count, place);
     }
 }
@@ -114,6 +157,9 @@ static uint32_t pass(char *text, uint8_t *image, uint32_t most) {
                 labels[labels_known++].value = place;
             }
             at++, count--;
+        } else if (count > 2 && strcmp(at[0], ".equ") == 0 && !image && labels_known < MOST_LABELS) {
+            snprintf(labels[labels_known].name, NAME, "%s", at[1]);
+            labels[labels_known++].value = value_of(at[2]);
         }
         uint32_t size = size_of(at, count);
         if (place + size > most)

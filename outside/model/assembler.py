@@ -14,12 +14,16 @@ FORMS.update({word: ("rrr", number) for word, number in THREE.items()})
 FORMS.update({word: ("rrn", number) for word, number in LOADS.items()})
 FORMS.update({word: ("rrd", number) for word, number in BRANCHES.items()})
 
+# Calls with operands: the call's number, how many registers it reads, and how many operands may stand.
+LINES = {"exit": (1, 0, (0,)), "out": (2, 1, (1,)), "make": (3, 5, (3, 5)), "copy": (4, 1, (1,)), "drop": (5, 1, (1,)),
+         "send": (6, 5, (1, 3, 5)), "receive": (7, 3, (1, 3)), "move": (8, 5, (5,))}
+
 LABEL = re.compile(r"[a-z_][a-z0-9_]{0,15}")
 REGISTER = re.compile(r"r([0-9]|1[0-5])")
-NUMBER = re.compile(r"[0-9]+|0x[0-9a-fA-F]+")
+NUMBER = re.compile(r"[0-9]+|0x[0-9a-fA-F]+|'[!-~]'")
 BEGINS_A_LABEL = re.compile(r"[A-Za-z_]")
 ENDS_WITH_A_TEXT = re.compile(r'[^"]*"([ !#-~]*)"[ \t\r,]*')
-DIRECTIVES = (".word", ".byte", ".zero", ".align", ".ascii")
+DIRECTIVES = (".word", ".byte", ".zero", ".align", ".ascii", ".equ")
 MOST_BYTES = 65_536
 
 
@@ -54,7 +58,10 @@ def text_of(line):
 def number_of(word, most):
     if not NUMBER.fullmatch(word):
         raise Wrong(3)
-    value = int(word[2:], 16) if word.startswith("0x") else within_digits(word)
+    if word.startswith("'"):
+        value = ord(word[1])
+    else:
+        value = int(word[2:], 16) if word.startswith("0x") else within_digits(word)
     if value > most:
         raise Wrong(4)
     return value
@@ -64,6 +71,10 @@ def within_digits(word):
     """A decimal number; one of very many digits stands for any that is too large."""
     digits = word.lstrip("0") or "0"
     return int(digits) if len(digits) <= 20 else 10**20
+
+
+def is_label(name):
+    return LABEL.fullmatch(name) is not None and REGISTER.fullmatch(name) is None
 
 
 def register_of(word):
@@ -80,10 +91,12 @@ def label_of(word, labels):
 
 
 def value_of(word, labels, most):
-    """A number, or a label's value."""
+    """A number, or a label's value, or that and a number more."""
     if not BEGINS_A_LABEL.match(word):
         return number_of(word, most)
-    value = label_of(word, labels)
+    name, plus, more = word.partition("+")
+    behind = number_of(more, float("inf")) if plus else 0
+    value = label_of(name, labels) + behind
     if value > most:
         raise Wrong(4)
     return value
@@ -105,12 +118,42 @@ def distance_of(word, labels, place):
 
 
 def parts_of(line):
-    """A line's label, as it is written, its other words, and whether a label stands there that isn't one."""
+    """A line's label, as it is written, its other words, and whether a label stands there that isn't one or can't."""
     words = words_of(line)
     if words and words[0].endswith(":"):
         label = words[0][:-1]
-        return (label, words[1:], False) if LABEL.fullmatch(label) else (None, words[1:], True)
+        return (label, words[1:], words[1:2] == [".equ"]) if is_label(label) else (None, words[1:], True)
+    if len(words) > 1 and words[0] == ".equ" and is_label(words[1]):
+        return words[1], words, False
     return None, words, False
+
+
+def value_given(words, place):
+    """What a line's label is worth: its place, or the number of .equ, which counts 0 where it isn't good."""
+    if words[:1] != [".equ"]:
+        return place
+    try:
+        return number_of(words[2], 2**32 - 1) if len(words) == 3 else 0
+    except Wrong:
+        return 0
+
+
+def setting_of(word, register, operand, labels):
+    """The instruction that sets a register of a call to its operand."""
+    if not REGISTER.fullmatch(operand) and word != "out":
+        return bytes([1, register]) + value_of(operand, labels, 65_535).to_bytes(2, "big")
+    other = register_of(operand)
+    if 1 <= other < register:
+        raise Wrong(2)
+    return bytes([3, register, other, 0])
+
+
+def line_of_call(word, operands, labels):
+    """The bytes of a call with its operands."""
+    number, registers, _ = LINES[word]
+    operands = operands + ["0"] * (registers - len(operands))
+    settings = [setting_of(word, register, operand, labels) for register, operand in enumerate(operands, 1)]
+    return b"".join(settings) + bytes([20, 0, 0, number])
 
 
 def padding_of(word, place):
@@ -134,6 +177,8 @@ def size_of(words, place, text):
         return 0
     if words[0] in FORMS or words[0] == ".word":
         return 4
+    if words[0] in LINES:
+        return 4 * LINES[words[0]][1] + 4
     if words[0] == ".byte":
         return len(words) - 1
     try:
@@ -151,14 +196,25 @@ def size_of(words, place, text):
 def count_fits(word, count):
     if word in (".byte", ".ascii"):
         return count >= 1
+    if word == ".equ":
+        return count == 2
     if word in DIRECTIVES:
         return count == 1
+    if word in LINES:
+        return count in LINES[word][2]
     return count == len(FORMS[word][0])
 
 
 def bytes_of(words, labels, place, text):
-    """The bytes of an instruction or directive, in a line with such a text."""
+    """The bytes of an instruction, call or directive, in a line with such a text."""
     word, operands = words[0], words[1:]
+    if word in LINES:
+        return line_of_call(word, operands, labels)
+    if word == ".equ":
+        if not is_label(operands[0]):
+            raise Wrong(3)
+        number_of(operands[1], 2**32 - 1)
+        return b""
     if word == ".word":
         return value_of(operands[0], labels, 2**32 - 1).to_bytes(4, "big")
     if word == ".byte":
@@ -193,7 +249,7 @@ def labels_of(text):
     for line in text.split("\n"):
         label, words, bad_label = parts_of(line)
         if label is not None:
-            labels.setdefault(label, place)
+            labels.setdefault(label, value_given(words, place))
         place += 0 if bad_label else size_of(words, place, text_of(line))
     return labels
 
@@ -208,11 +264,11 @@ def assemble(text):
             if label in labels:
                 again.add(number)
             else:
-                labels[label] = place
+                labels[label] = value_given(words, place)
         place += size_of(words, place, ending)
     image = bytearray()
     for number, (label, words, bad_label, ending) in enumerate(lines, 1):
-        if bad_label or words and words[0] not in FORMS and words[0] not in DIRECTIVES:
+        if bad_label or words and words[0] not in FORMS and words[0] not in LINES and words[0] not in DIRECTIVES:
             raise Fault(number, 1)
         if number in again:
             raise Fault(number, 6)

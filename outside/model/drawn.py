@@ -386,11 +386,16 @@ class Files(Drawing):
     WORDS.update(dict.fromkeys("add sub mul and or xor shl shr".split(), "rrr"))
     WORDS.update(dict.fromkeys("lw sw lb sb".split(), "rrn"))
     WORDS.update(dict.fromkeys("beq bne bltu".split(), "rrl"))
-    OPERANDS = {"r": "r0 r7 r15", "v": "x y z 5 65535 0xff", "n": "0 1 255 0x7f", "w": "x 4294967295 0", "z": "0 1 4 500", "l": "x y z"}
+    # how often a call stands with one, three and five operands
+    CALLS = {"send": (2, 3, 2), "receive": (2, 3, 0), "make": (0, 3, 2), "move": (0, 0, 3), "copy": (1, 0, 0), "drop": (1, 0, 0)}
+    WORDS.update({**dict.fromkeys(CALLS, "a"), "out": "r", "exit": "", ".equ": "en"})
+    OPERANDS = {"r": "r0 r7 r15", "v": "x y z 5 65535 0xff 'a' e x+4", "n": "0 1 255 0x7f '~'", "w": "x 4294967295 0 f+1", "z": "0 1 4 500", "l": "x y z e"}
+    OPERANDS.update({"a": "r0 r6 r7 r15 0 5 65535 x e x+8 'a'", "e": "e f e1 e2 e3"})
     OPERANDS.update({"c": "0 1 255 0x7f EXIT SEND MOVE", "m": "1 2 3 4 0x10", "t": '"" "a" "a,b" "~!"'})
     ODD_OPERANDS = (
         "r16 r01 R1 r rr Foo SEND \"a \"a;b\" nowhere abcdefghijklmnop abcdefghijklmnopq 256 65536 65537 4294967296 0x0 0xFF 0x10000 0x100000000 0x 0X1"
-        " 007 00000000000000000000000000000000001 99999999999999999999999999 -1 +1 1_0 \u00e9 - ."
+        " 007 00000000000000000000000000000000001 99999999999999999999999999 -1 +1 1_0 \u00e9 - . r1 r2 r3 r4 r5 'ab' '' ' ''' 'a x+ x+y x+65535 e+65536"
+        " nowhere+1 nowhere+x +4 x+4+4 x-4 '\u00e9'"
     ).split(" ")
     ODD_LABELS = "x: y: z: : A: 1a: _: x:y: x:: abcdefghijklmnop: abcdefghijklmnopq: r1: li:".split(" ")
     ODD_VALUES = (
@@ -467,8 +472,11 @@ class Files(Drawing):
 
     def line(self):
         label = self.pick(self.ODD_LABELS) + " " if self.one_in(40) else self.pick(["x: ", "l:", "m:\t"]) if self.one_in(12) else ""
-        word = self.pick(list(self.WORDS)) if not self.one_in(60) else self.pick(["hop", "LI", "li:", "", "r1", ";"])
-        operands = [self.pick(self.OPERANDS[kind].split(" ")) for kind in self.WORDS.get(word, "")]
+        word = self.pick(list(self.WORDS)) if not self.one_in(60) else self.pick(["hop", "LI", "li:", "", "r1", ";", "Send", ".equ x"])
+        kinds = self.WORDS.get(word, "")
+        if word in self.CALLS:
+            kinds *= self.pick([count for count, often in zip((1, 3, 5), self.CALLS[word]) for _ in range(often)])
+        operands = [self.pick(self.OPERANDS[kind].split(" ")) for kind in kinds]
         change = self.below(40)
         if change < 2 and operands:
             operands[self.below(len(operands))] = self.pick(self.ODD_OPERANDS)

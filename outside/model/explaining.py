@@ -2,12 +2,14 @@
 
 import boot as boot_file
 import schedule as schedule_file
-from assembler import BEGINS_A_LABEL, FORMS, LABEL, MOST_BYTES, NUMBER, REGISTER, Wrong, bytes_of, count_fits, labels_of, parts_of, size_of, text_of, words_of
+from assembler import FORMS, LINES, MOST_BYTES, REGISTER, Wrong, bytes_of, count_fits, is_label, labels_of, number_of, parts_of, setting_of, size_of, text_of, value_given, words_of
 from values import MANAGER, SWITCHBOARD
 
 A_NAME = " is no name, which has 1 to 16 of a to z, 0 to 9 and _"
 A_LABEL = " is no label, which has 1 to 16 of a to z, 0 to 9 and _, the first no digit"
-A_NUMBER = "    a number has digits alone, or 0x and hexadecimal digits"
+NO_LABEL = " is no label, since a register is named so"
+A_NUMBER = "    a number has digits alone, or 0x and hexadecimal digits, or is a character, as 'a'"
+NEW_LABEL = "    a label has 1 to 16 of a to z, 0 to 9 and _, the first no digit, and is no register"
 A_TEXT = "    a text has printed bytes alone, without quotation marks and semicolons, and nothing stands behind it"
 A_CALL = A_NUMBER + "; a call is EXIT OUT MAKE COPY DROP SEND RECEIVE or MOVE"
 SOME_DIGITS = "    a number has 1 to 10 digits alone"
@@ -187,14 +189,14 @@ def label_told(link, labels, image):
 
 # The lines of an image's text
 
-DIRECTIVES = {".word": "v", ".byte": "b", ".zero": "z", ".align": "m", ".ascii": "t"}
-RANGES = {"m": ", must be 1 to 65536", "c": ", must be 0 to 255", "n": ", must be 0 to 255", "b": ", must be 0 to 255", "z": ", must be 0 to 65536", "d": ", must be -128 to 127 whole words from the next instruction"}
-NOTES = {"c": A_CALL, "t": A_TEXT}
-MISSING = {"t": "a text in quotation marks must stand where none stands", "c": "a number or call must stand where none stands", "d": "a label must stand where none stands", "v": "a number or label must stand where none stands"}
+DIRECTIVES = {".word": "v", ".byte": "b", ".zero": "z", ".align": "m", ".ascii": "t", ".equ": "le"}
+RANGES = {"m": ", must be 1 to 65536", "c": ", must be 0 to 255", "n": ", must be 0 to 255", "b": ", must be 0 to 255", "z": ", must be 0 to 65536", "e": ", must be 0 to 4294967295", "d": ", must be -128 to 127 whole words from the next instruction"}
+NOTES = {"c": A_CALL, "t": A_TEXT, "l": NEW_LABEL}
+MISSING = {"l": "a label must stand where none stands", "a": "a number, label or register must stand where none stands", "t": "a text in quotation marks must stand where none stands", "c": "a number or call must stand where none stands", "d": "a label must stand where none stands", "v": "a number or label must stand where none stands"}
 
 
 def kinds_of(word):
-    return FORMS[word][0] if word in FORMS else DIRECTIVES[word]
+    return "a" if word in LINES else FORMS[word][0] if word in FORMS else DIRECTIVES[word]
 
 
 def places_of(lines):
@@ -208,15 +210,19 @@ def places_of(lines):
             if label in labels:
                 again[number] = firsts[label]
             else:
-                labels[label], firsts[label] = at, number
+                labels[label], firsts[label] = value_given(words, at), number
         at += 0 if bad_label else size_of(words, at, text_of(line))
     return labels, again, places
+
+
+def is_word(word):
+    return word in FORMS or word in LINES or word in DIRECTIVES
 
 
 def why_of(number, line, labels, again, at):
     """Why a line is refused, if it is: the number of the reason."""
     _, words, bad_label = parts_of(line)
-    if bad_label or words and words[0] not in FORMS and words[0] not in DIRECTIVES:
+    if bad_label or words and not is_word(words[0]):
         return 1
     if number in again:
         return 6
@@ -245,9 +251,9 @@ def text_told(image, data):
     for number, line in enumerate(lines, 1):
         why = why_of(number, line, labels, again, places[number - 1])
         if why is not None:
-            said.append(f"rule 11: image {quoted(image['name'])}, line {number}: {line_told(why, line)}")
-            if why == 3 and number_due(line):
-                said.append(NOTES.get(last_kind(statement_of(line)[0]), A_NUMBER))
+            said.append(f"rule 11: image {quoted(image['name'])}, line {number}: {line_told(why, line, labels)}")
+            if why == 3 and kind_refused(line, labels) != "d":
+                said.append(NOTES.get(kind_refused(line, labels), A_NUMBER))
             if why == 6:
                 said.append(f"    the label stands on line {again[number]} already")
             if before is not None:
@@ -259,58 +265,79 @@ def statement_of(line):
     """The word of a line that has one, and its operands."""
     words = words_of(line)
     for start in (0, 1):
-        if len(words) > start and (words[start] in FORMS or words[start] in DIRECTIVES):
+        if len(words) > start and is_word(words[start]):
             return words[start], words[start + 1 :]
     return None, []
 
 
-def last_kind(word):
-    """What the last operand is, or each of `.byte`."""
-    return kinds_of(word)[-1]
+def kind_refused(line, labels):
+    """What the operand must be that is refused in a line."""
+    kinds = kinds_of(statement_of(line)[0])
+    return kinds[-1] if kinds != "le" else kinds[refused_operand(line, labels)[0] - 1]
 
 
-def number_due(line):
-    """Whether a number may stand where none stands."""
-    return last_kind(statement_of(line)[0]) != "d"
-
-
-def refused_operand(word, operands):
-    """The operand that is refused, by its place from 1."""
+def is_fine(word, place, operand, labels):
+    """Whether the operand at a place, from 1, isn't the one that is refused."""
     kinds = kinds_of(word)
-    for place, operand in enumerate(operands, 1):
-        kind = "b" if kinds == "b" else kinds[place - 1]
-        if kind == "r" and REGISTER.fullmatch(operand):
-            continue
-        if kind == "b" and NUMBER.fullmatch(operand) and int(operand, 16 if operand.startswith("0x") else 10) <= 255:
-            continue
-        return place, operand
-    return None
+    try:
+        if word in LINES:
+            setting_of(word, place, operand, labels)
+            return True
+        if kinds == "b":
+            number_of(operand, 255)
+            return True
+    except Wrong:
+        return False
+    return kinds[place - 1] == "r" and REGISTER.fullmatch(operand) or kinds[place - 1] == "l" and is_label(operand)
 
 
-def line_told(why, line):
+def refused_operand(line, labels):
+    """The operand that is refused, by its place from 1."""
+    word, operands = statement_of(line)
+    return next((place, operand) for place, operand in enumerate(operands, 1) if not is_fine(word, place, operand, labels))
+
+
+def count_due(word):
+    """How many operands a word has, in words."""
+    if word == ".byte":
+        return "1 or more"
+    counts = [str(count) for count in LINES[word][2]] if word in LINES else [str(len(kinds_of(word)))]
+    return " or ".join([", ".join(counts[:-1]), counts[-1]] if len(counts) > 1 else counts)
+
+
+def no_word_told(line):
+    """Which word of a line is none."""
+    first, words = words_of(line)[0], parts_of(line)[1]
+    if first.endswith(":") and not is_label(first[:-1]):
+        return quoted(first) + (NO_LABEL if REGISTER.fullmatch(first[:-1]) else A_LABEL)
+    if words[0] == ".equ":
+        return 'no label stands before ".equ", which has one behind it'
+    return f"{quoted(words[0])} is no instruction and no directive"
+
+
+def line_told(why, line, labels):
     said = f": {quoted(line)}"
     if why == 1:
-        first = words_of(line)[0]
-        bad = first.endswith(":") and not LABEL.fullmatch(first[:-1])
-        which = f"{quoted(first)}{A_LABEL}" if bad else f"{quoted(parts_of(line)[1][0])} is no instruction and no directive"
-        return f"no such word{said}: {which}"
+        return f"no such word{said}: {no_word_told(line)}"
     if why == 6:
         return "an earlier line has this label" + said
     if why == 8:
         return "the image has more than 65536 bytes with this line" + said
     word, operands = statement_of(line)
     if why == 7:
-        due = "1 or more" if word == ".byte" else len(kinds_of(word))
-        return f"more or fewer operands than the word has{said}: the word has {due}, not {len(operands)}"
-    place, operand = refused_operand(word, operands)
+        return f"more or fewer operands than the word has{said}: the word has {count_due(word)}, not {len(operands)}"
+    place, operand = refused_operand(line, labels)
     which = f": operand {place}, {quoted(operand)}"
-    kind = last_kind(word)
+    kind = kind_refused(line, labels)
+    is_register = REGISTER.fullmatch(operand)
+    if why == 2 and is_register:
+        return f"operand {place} must not be {quoted(operand)}, which an operand before it sets{said}"
     if why == 2:
-        return "a register must stand where none stands" + said + which + ", must be r0 to r15"
+        return f"operand {place} must be a register, not {quoted(operand)}{said}: a register is r0 to r15"
     if why == 3:
         return MISSING.get(kind, "a number must stand where none stands") + said + which
     if why == 5:
-        return "no line has this label" + said + which
+        return "no line has this label" + said + which + (", is a register" if is_register else "")
     most = 2**32 - 1 if word == ".word" else 65_535
     return "a number is out of range" + said + which + RANGES.get(kind, f", must be 0 to {most}")
 

@@ -6,12 +6,15 @@ meet just one is tried. Each is done from the boot file on."""
 import contextlib
 import re
 
+from check import LIMITS, SHAPES, SORTS
 from process import Moving, Waiting
 from schedule import NUMBER, Wrong, number_of, pid_of
 from values import MANAGER, SERVERS
 from world import Here, World, Worn
 
-MOST_WORDS = 8
+# The lines of a group, as their words; what stands behind them in the table are lines at the end of a run.
+GROUP_LINES = [shape.split(" ") for shape in re.split(r"[|\n]", SHAPES.partition("\nfinal|")[0].strip())]
+FIRST_PROCESS = 3  # below are a kernel and the servers
 
 
 class NotFound(Exception):
@@ -43,14 +46,40 @@ class Bounds:
         self.acks = acks
 
 
-def is_text(text):
-    """Whether a text is one to eight words, with one space between."""
+def is_of(sort, word):
+    """Whether a word of a line may stand where this sort does."""
+    limits = {"P": ["M", "N"], "I": ["M", "N", "N"]}.get(sort, [sort] if sort in LIMITS else [])
+    numbers = [int(number) for number in re.findall(r"[0-9]+", word)] if limits else []
+    return re.fullmatch(SORTS.get(sort, re.escape(sort)), word, re.ASCII) is not None and all(number < LIMITS[limit] for number, limit in zip(numbers, limits))
+
+
+def words_that_begin(shape, words):
+    """With how many of these words a line of this shape may begin."""
+    count = 0
+    while count < min(len(shape), len(words)) and is_of(shape[count], words[count]):
+        count += 1
+    return count
+
+
+def wrong_word(text):
+    """The first word of a text with which no line of a group begins any more, if there is one."""
     words = text.split(" ")
-    return len(words) <= MOST_WORDS and all(words)
+    count = max(words_that_begin(shape, words) for shape in GROUP_LINES)
+    return words[count] if count < len(words) else None
+
+
+def is_text(text):
+    """Whether a line of a group may begin with the words of a text, with one space between."""
+    return wrong_word(text) is None
 
 
 def looks_like_pid(word):
     return re.fullmatch(r"[0-9]{1,10}\.[0-9]{1,10}", word, re.ASCII) is not None
+
+
+def may_be_stuck(word):
+    """Whether a word names what may be a process: not a kernel, or a server, which never gets stuck."""
+    return looks_like_pid(word) and int(word.partition(".")[2]) >= FIRST_PROCESS
 
 
 def looks_like_move(word):

@@ -26,7 +26,7 @@ from counting import Counts, quiet_line
 from drill import directives_of, drawn_boot, drill
 from ends import end_lines
 from explaining import explain, first_told, names_of
-from exploring import Bounds, NotFound, OutOfRange, Undecided, explore, is_text, looks_like_move, looks_like_pid, move_in, pid_in
+from exploring import Bounds, NotFound, OutOfRange, Undecided, explore, is_text, looks_like_move, may_be_stuck, move_in, pid_in
 from looking import Enough, look, name_lines
 from onekernel import Refused as LabelsRefused
 from onekernel import check_labels
@@ -215,7 +215,7 @@ def do_explore(words, write):
     found = dict(options)
     if len(names) != len(set(names)) or "--boot" not in found or "--depth" not in found or ("--line" in found) == ("--stuck" in found):
         raise Stop(2, USAGE)
-    stuck, moves, call_offs = listed(options, "--stuck", looks_like_pid), listed(options, "--move", looks_like_move), listed(options, "--calloff", looks_like_move)
+    stuck, moves, call_offs = listed(options, "--stuck", may_be_stuck), listed(options, "--move", looks_like_move), listed(options, "--calloff", looks_like_move)
     text = found.get("--line")
     if text is not None and not is_text(text):
         raise Stop(2, USAGE)

@@ -1,6 +1,6 @@
 """What is said on standard error before a status's line: of words that ask for nothing, and of files (docs/FORMATS.md)."""
 
-from exploring import is_text, looks_like_move, looks_like_pid
+from exploring import is_text, looks_like_move, may_be_stuck, wrong_word
 
 HELP = "help: ./demosmp help, docs/FORMATS.md"
 FORMS = {
@@ -30,8 +30,8 @@ NEEDED = {name: options for name, options in OPTIONS.items()} | {"check": ["--bo
 VALUES = {"--at": "G", "--from": "G", "--to": "G", "--seed": "N", "--lines": "L", "--machines": "M", "--depth": "N"}
 RANGES = {"--at": (0, 2**32 - 1), "--from": (1, 2**32 - 1), "--to": (1, 2**32 - 1), "--seed": (0, 2**32 - 1), "--lines": (1, 10_000), "--machines": (2, 16), "--depth": (1, 64), "--ticks": (0, 255), "--repeats": (0, 255), "--most": (1, 2**32 - 1)}
 SHAPES = {
-    "--line": (is_text, "one to eight words with one space between"),
-    "--stuck": (looks_like_pid, "a process as in 0.3"),
+    "--line": (is_text, None),
+    "--stuck": (may_be_stuck, "a process as in 0.3"),
     "--move": (looks_like_move, "a process and a machine as in 0.3=1"),
     "--calloff": (looks_like_move, "a process and a machine as in 0.3=1"),
 }
@@ -77,6 +77,8 @@ def word_by_word(command, words):
 def bad_value(command, values):
     for option in OPTIONS[command]:
         for word in values.get(option, []):
+            if option == "--line" and not is_text(word):
+                return f"--line {wrong_word(word)}: no line of a group has this word there"
             if option in SHAPES and not SHAPES[option][0](word):
                 return f"{option} {word}: {SHAPES[option][1]}"
             if option not in RANGES:

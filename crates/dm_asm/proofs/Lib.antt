@@ -1,8 +1,11 @@
 pub mod Names
+pub mod Calling
 pub mod Comments
 pub mod Defined
 pub mod Meant
 pub mod Labelled
-mod Sizes
+pub mod Sizes
+mod Expanding
 mod Stands
 mod Worked
+mod WorkedCalls

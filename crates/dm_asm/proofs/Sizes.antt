@@ -1,5 +1,10 @@
 -- A line makes as many bytes as it counts.
 use Rattle.dm_asm.proofs.Names.{ℕ, suc, Bool, true, false, nat_le, ◌≡◌, refl, ap, List, [], ◌∷◌, length, replicate, arith, Option, Some, None, Result, Ok, Err, if◌then◌else◌, nat_tests, length-replicate, Opcode, Form, Instruction, Word}
+use Rattle.dm_asm.proofs.Names.{zero, ◌+◌, ◌-◌, ◌*◌, ◌≤◌, ◌++◌, ◌∙◌, length-append, Calling, Equ, argument_of, call_bytes, call_registers, call_size, cleared, is_misplaced, making, name_operand, setting, settings, takes_arguments}
+use Rattle.dm_asm.specs.declared.calls.Argument.{Argument}
+use Rattle.dm_asm.specs.declared.calls.Argument.TheVariants.{Register, Value}
+use Rattle.dm_asm.specs.declared.calls.CallWord.{CallWord}
+use Rattle.dm_asm.specs.declared.calls.CallWord.TheVariants as call
 use Rattle.dm_asm.proofs.Names.{Align, Ascii, BadNumber, is_multiple, multiple, padding, text_in, text_operand, wanted_multiple}
 use Rattle.dm_asm.proofs.Names.{Byte, Zero, Shape, RegisterValue, TwoRegisters, ThreeRegisters, Access, Jump, Branch, Call, Place, Why, OperandCount, OutOfRange, form_of, shape_of, source_words, without_comment, literal_value, fields}
 use Rattle.dm_asm.proofs.Names.{call_operand, number_operand, register, target, value, wanted_number, behind_label, form_size, label_of_words, line_size, statement_size, ◌>>=◌, form_bytes, instruction_bytes, is_twice, line_bytes, listed_bytes}
@@ -47,6 +52,43 @@ unfolding listed_bytes
 as-listed [] = refl
 as-listed (w ∷ ws) = of-value (length (w ∷ ws)) (wanted_number 255 (literal_value w)) _ (λ first. of-bytes (length ws) (length (w ∷ ws)) (listed_bytes ws) _ (as-listed ws) (λ others e. ap suc e))
 
+-- an instruction before others has four bytes
+pub setting-behind : (r : ℕ) (a : Argument) (bs : List ℕ) → length (setting r a ++ bs) ≡ 4 + length bs
+setting-behind r (Register q) bs = omega arith
+setting-behind r (Value v) bs = omega arith
+
+as-set : (places : List ℕ → Option Place) (c : CallWord) (r : ℕ) (ws : List (List ℕ)) → HasLength (4 * length ws) (settings places c r ws)
+unfolding settings
+as-set places c r [] = refl
+as-set places c r (w ∷ ws) =
+    of-value (4 * length (w ∷ ws)) (argument_of places c r w) _ (λ a. of-bytes (4 * length ws) (4 * length (w ∷ ws)) (settings places c (r + 1) ws) _ (as-set places c (r + 1) ws) (λ others e. setting-behind r a others ∙ omega (arith, e)))
+
+as-cleared : (r n : ℕ) → length (cleared r n) ≡ 4 * n
+unfolding cleared
+as-cleared r zero = refl
+as-cleared r (suc n) = let e = as-cleared (r + 1) n in setting-behind r (Value 0) (cleared (r + 1) n) ∙ omega (arith, e)
+
+-- a call has a register for each of its operands
+pub few-operands : (c : CallWord) (n : ℕ) → takes_arguments c n ≡ true → n ≤ call_registers c
+few-operands call.Exit n h = grind (arith, nat_tests)
+few-operands call.Out n h = grind (arith, nat_tests)
+few-operands call.Make n h = grind (arith, nat_tests)
+few-operands call.Copy n h = grind (arith, nat_tests)
+few-operands call.Drop n h = grind (arith, nat_tests)
+few-operands call.Send n h = grind (arith, nat_tests)
+few-operands call.Receive n h = grind (arith, nat_tests)
+few-operands call.Move n h = grind (arith, nat_tests)
+
+-- what stands behind the instructions for the operands
+pub rest-length : (c : CallWord) (n : ℕ) → length (cleared (1 + n) (call_registers c - n) ++ making c) ≡ 4 * (call_registers c - n) + 4
+rest-length c n = length-append (cleared (1 + n) (call_registers c - n)) (making c) ∙ ap (λ k. k + 4) (as-cleared (1 + n) (call_registers c - n))
+
+call-length : (places : List ℕ → Option Place) (c : CallWord) (ws : List (List ℕ)) → takes_arguments c (length ws) ≡ true → HasLength (call_size c) (call_bytes places c ws)
+unfolding call_bytes
+call-length places c ws h =
+    let few = few-operands c (length ws) h in
+    of-bytes (4 * length ws) (call_size c) (settings places c 1 ws) _ (as-set places c 1 ws) (λ bs e. let behind = rest-length c (length ws) in length-append bs _ ∙ omega (arith, e, few, behind))
+
 -- zeros, by the test of their number
 zeros-by : (b : Bool) (n : ℕ) → HasLength (if b then n else 0) (((if b then Ok n else Err OutOfRange) >>= λ v. Ok (v, [])) >>= λ (m : ℕ × List (List ℕ)). Ok (replicate m.0 0))
 zeros-by true n = length-replicate n 0
@@ -73,6 +115,7 @@ text-length (Some bytes) = refl
 form-length : (places : List ℕ → Option Place) (at : ℕ) (text : Option (List ℕ)) (form : Form) (ws : List (List ℕ)) → takes_operands form (length ws) ≡ true → HasLength (form_size at text (Some form) ws) (form_bytes places at text form ws)
 unfolding number_operand multiple
 form-length places at text (Instruction op) ws h = four-bytes places at op ws
+form-length places at text (Calling c) ws h = call-length places c ws h
 form-length places at text Word ws h = of-value 4 (value places 4294967295 ws) _ (λ w. refl)
 form-length places at text Byte ws h = as-listed ws
 form-length places at text Zero [] h = tt
@@ -82,6 +125,7 @@ form-length places at text Align [] h = tt
 form-length places at text Align (w ∷ []) h = padding-of at (literal_value w)
 form-length places at text Align (w ∷ v ∷ ws) h = absurd (grind (arith, nat_tests))
 form-length places at text Ascii ws h = text-length (text_operand text ws)
+form-length places at text Equ ws h = of-value 0 (name_operand ws) _ (λ name. of-value 0 (number_operand 4294967295 name.1) _ (λ n. refl))
 
 named-length : (places : List ℕ → Option Place) (at : ℕ) (twice : Bool) (text : Option (List ℕ)) (o : Option Form) (ws : List (List ℕ))
     → HasLength (form_size at text o ws) (ok_or o UnknownWord >>= λ form. if twice then Err LabelTwice else (if takes_operands form (length ws) then form_bytes places at text form ws else Err OperandCount))
@@ -99,4 +143,4 @@ pub line-length : (places : List ℕ → Option Place) (number at : ℕ) (line :
 unfolding line_bytes line_size
 line-length places number at line =
     let ws = source_words (without_comment line) in
-    statement-length places at (is_twice places number (label_of_words ws)) (text_in (without_comment line)) (behind_label ws)
+    where_false (line_size at line) (is_misplaced ws) UnknownWord _ (statement-length places at (is_twice places number (label_of_words ws)) (text_in (without_comment line)) (behind_label ws))

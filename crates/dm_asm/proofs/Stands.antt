@@ -1,6 +1,6 @@
 -- Each label stands behind the bytes of the lines before it.
 use Rattle.dm_asm.proofs.Names.{ℕ, Bool, true, false, ◌+◌, ◌-◌, ◌≤◌, nat_le, ◌≡◌, refl, sym, ap, ◌∙◌, List, [], ◌∷◌, ◌++◌, length, take, append_assoc, arith, subst, suc, Option, Some, Result, Ok, Err, if◌then◌else◌, length-append}
-use Rattle.dm_asm.proofs.Names.{append-nil, take-append_seam, Place, Why, TooLong, StandsBehind, assembled, from_line, places_of, with_line, with_lines, source_lines, has_label, line_size, place_from, ◌>>=◌}
+use Rattle.dm_asm.proofs.Names.{append-nil, take-append_seam, Place, Why, TooLong, StandsBehind, assembled, from_line, places_of, with_line, with_lines, source_lines, has_label, line_size, line_value, place_from, slice_get, ◌>>=◌}
 use Rattle.dm_asm.proofs.Names.{line_bytes}
 use Rattle.dm_asm.proofs.Sizes.{HasLength, line-length}
 
@@ -48,8 +48,10 @@ lines-go places number image (l ∷ ls) whole h =
 record Found (places : List ℕ → Option Place) (number : ℕ) (image : List ℕ) (ls : List (List ℕ)) (whole : List ℕ) (place : Place) : Type 0 where
   later : number ≤ place.line
   before : List ℕ
+  line : List ℕ
+  is_line : slice_get ls (place.line - number) ≡ Some line
   of_lines : with_lines places number image (take (place.line - number) ls) ≡ Ok before
-  value : place.address ≡ length before
+  value : place.address ≡ line_value (length before) line
   goes : Goes before whole
 
 -- one line more before it
@@ -61,21 +63,25 @@ one-more {places} {number} {image} {new} {l} {ls} {whole} {place} e f =
     record {
       later = omega (arith, f.later);
       before = f.before;
+      line = f.line;
+      is_line = ap (λ i. slice_get (l ∷ ls) i) k ∙ f.is_line;
       of_lines = ap (λ i. with_lines places number image (take i (l ∷ ls))) k ∙ step;
       value = f.value;
       goes = f.goes;
     }
 
 -- no line before it
-no-more : (places : List ℕ → Option Place) (number : ℕ) (image : List ℕ) (ls : List (List ℕ)) (whole : List ℕ) → with_lines places number image ls ≡ Ok whole → Found places number image ls whole (record { line = number; address = length image })
-no-more places number image ls whole h =
+no-more : (places : List ℕ → Option Place) (number : ℕ) (image l : List ℕ) (ls : List (List ℕ)) (whole : List ℕ) → with_lines places number image (l ∷ ls) ≡ Ok whole → Found places number image (l ∷ ls) whole (record { line = number; address = line_value (length image) l })
+no-more places number image l ls whole h =
     let k : number - number ≡ 0 = omega arith in
     record {
       later = omega arith;
       before = image;
-      of_lines = ap (λ i. with_lines places number image (take i ls)) k;
+      line = l;
+      is_line = ap (λ i. slice_get (l ∷ ls) i) k;
+      of_lines = ap (λ i. with_lines places number image (take i (l ∷ ls))) k;
       value = refl;
-      goes = lines-go places number image ls whole h;
+      goes = lines-go places number image (l ∷ ls) whole h;
     }
 
 -- the label of this line, or of a later one
@@ -90,8 +96,8 @@ found places number image [] whole name place h p = absurd (cc)
 found places number image (l ∷ ls) whole name place h p =
     let (new, e, rest) = first-gives number (with_line places number image l) (λ new. with_lines places (number + 1) new ls) whole h in
     let size = (longer places number image l new e).length_is in
-    here-or-later (Found places number image (l ∷ ls) whole) (has_label l name) (record { line = number; address = length image }) place (place_from (number + 1) (length image + line_size (length image) l) ls name)
-    (no-more places number image (l ∷ ls) whole h)
+    here-or-later (Found places number image (l ∷ ls) whole) (has_label l name) (record { line = number; address = line_value (length image) l }) place (place_from (number + 1) (length image + line_size (length image) l) ls name)
+    (no-more places number image l ls whole h)
     (λ after. one-more e (found places (number + 1) new ls whole name place rest (ap (λ at. place_from (number + 1) at ls name) size ∙ after)))
     p
 
@@ -102,7 +108,9 @@ stands_behind text image name place h p =
     let f = found (places_of text) 1 [] (source_lines text) image name place h p in
     record {
       before = f.before;
+      line = f.line;
+      is_line = f.is_line;
       of_lines = f.of_lines;
       value = f.value;
-      begins = ap (λ k. take k image) f.value ∙ ap (take (length f.before)) f.goes.all ∙ take-append_seam f.before f.goes.more;
+      begins = ap (take (length f.before)) f.goes.all ∙ take-append_seam f.before f.goes.more;
     }

@@ -1,6 +1,6 @@
 -- The definitions, computed on worked texts.
 use Rattle.dm_asm.proofs.Names.{◌≡◌, ℕ, Ok, Err, Result, List, [], ◌∷◌, ◌++◌, map, codes, refl, Why, assembled, places_of, with_line, form_of, source_lines, words_between, literal_value, distance_of, fields, number_operand, register, target}
-use Rattle.dm_asm.proofs.Names.{padding, multiple, text_behind, text_in, call_named, call_value, call_operand, value, operand_value, has_label, line_size, why_code, line_bytes, listed_bytes, statement_bytes}
+use Rattle.dm_asm.proofs.Names.{line_value, padding, multiple, text_behind, text_in, call_named, call_value, call_operand, value, operand_value, has_label, line_size, why_code, line_bytes, listed_bytes, statement_bytes}
 
 -- the line and the number of a refusal; 0 and 0 where there is an image
 abbrev refusal : Result (List ℕ) (ℕ × Why) → ℕ × ℕ
@@ -126,9 +126,9 @@ refused =
     (codes ".ascii" ++ 34 ∷ codes "a" ++ 34 ∷ [], (1, 1)) ∷ []
 
 pub images_are_these : map (λ row. assembled row.0) images ≡ map (λ row. Ok row.1) images
-unfolding padding multiple text_behind text_in assembled places_of with_line form_of source_lines words_between literal_value call_named call_value call_operand operand_value distance_of register number_operand value target fields line_size has_label listed_bytes statement_bytes line_bytes
+unfolding line_value padding multiple text_behind text_in assembled places_of with_line form_of source_lines words_between literal_value call_named call_value call_operand operand_value distance_of register number_operand value target fields line_size has_label listed_bytes statement_bytes line_bytes
 images_are_these = refl
 
 pub refused_so : map (λ row. refusal (assembled row.0)) refused ≡ map (λ row. row.1) refused
-unfolding padding multiple text_behind text_in assembled places_of with_line form_of source_lines words_between literal_value call_named call_value call_operand operand_value distance_of register number_operand value target fields line_size has_label listed_bytes statement_bytes line_bytes
+unfolding line_value padding multiple text_behind text_in assembled places_of with_line form_of source_lines words_between literal_value call_named call_value call_operand operand_value distance_of register number_operand value target fields line_size has_label listed_bytes statement_bytes line_bytes
 refused_so = refl

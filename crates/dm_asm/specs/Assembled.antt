@@ -1,5 +1,5 @@
 -- The image of a text.
-use Rattle.std.specs.Prelude.{ℕ, ◌≡◌, nat_le, ◌+◌, ◌-◌, if◌then◌else◌, Option, Result, Ok, Err, List, [], ◌∷◌, ◌++◌, length, take}
+use Rattle.std.specs.Prelude.{ℕ, ◌≡◌, nat_le, ◌+◌, ◌-◌, if◌then◌else◌, Option, Some, Result, Ok, Err, List, [], ◌∷◌, ◌++◌, length, slice_get, take}
 use Rattle.dm_reading.specs.Lines.{source_lines}
 use Rattle.dm_asm.specs.declared.labels.Place.{Place}
 use Rattle.dm_asm.specs.declared.refusals.Why.{Why}
@@ -8,7 +8,7 @@ use Rattle.dm_asm.specs.declared.refusals.AssembleError.{AssembleError}
 use Rattle.dm_asm.specs.declared.refusals.AssembleError.TheVariants.{Fault, NoMemory}
 use Rattle.dm_asm.specs.declared.refusals.Stop.{Stop}
 use Rattle.dm_asm.specs.declared.refusals.Stop.TheVariants as stops
-use Rattle.dm_asm.specs.Places.{place_from}
+use Rattle.dm_asm.specs.Places.{line_value, place_from}
 use Rattle.dm_asm.specs.Refusals.{◌>>=◌}
 use Rattle.dm_asm.specs.Statements.{line_bytes}
 
@@ -29,7 +29,7 @@ with_lines places number image [] = Ok image
 with_lines places number image (l ∷ ls) =
     from_line number (with_line places number image l) (λ new. with_lines places (number + 1) new ls)
 
--- the first line of a text with a label, and its address
+-- the first line of a text with a label, and its value
 unfoldable pub places_of : List ℕ → List ℕ → Option Place
 places_of text name = place_from 1 0 (source_lines text) name
 
@@ -48,9 +48,11 @@ abbrev pub at_line : ℕ → Stop → AssembleError
 at_line line (stops.Fault why) = Fault line why
 at_line line (stops.NoMemory none) = NoMemory none
 
--- a place of a text with this image: its address is how many bytes the lines before it make, and with these the image begins
+-- a place of a text with this image: its value is how many bytes the lines before it make, or what .equ gives there; with these the image begins
 pub record StandsBehind (text image : List ℕ) (place : Place) : Type 0 where
   pub before : List ℕ
+  pub line : List ℕ
+  pub is_line : slice_get (source_lines text) (place.line - 1) ≡ Some line
   pub of_lines : with_lines (places_of text) 1 [] (take (place.line - 1) (source_lines text)) ≡ Ok before
-  pub value : place.address ≡ length before
-  pub begins : take place.address image ≡ before
+  pub value : place.address ≡ line_value (length before) line
+  pub begins : take (length before) image ≡ before

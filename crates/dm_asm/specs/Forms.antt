@@ -1,23 +1,32 @@
 -- The instructions and directives by their words, and what their operands are.
-use Rattle.std.specs.Prelude.{ℕ, List, Option, Some, if◌then◌else◌, codes, option_map}
+use Rattle.std.specs.Prelude.{ℕ, List, Option, None, Some, if◌then◌else◌, codes, option_map}
 use Rattle.std.specs.List.{find}
 use Rattle.std.specs.Str.{bytes_eq}
 use Rattle.dm_processor.specs.Opcodes.{opcodes, opcode_word}
 use Rattle.dm_processor.specs.declared.opcodes.Opcode.{Opcode}
 use Rattle.dm_processor.specs.declared.opcodes.Opcode.TheVariants.{Li, Lih, Mov, Lw, Sw, Lb, Sb, Jmp, Beq, Bne, Bltu, Sys}
+use Rattle.dm_asm.specs.Calls.{call_word, call_words}
+use Rattle.dm_asm.specs.declared.calls.CallWord.{CallWord}
 use Rattle.dm_asm.specs.declared.forms.Form.{Form}
-use Rattle.dm_asm.specs.declared.forms.Form.TheVariants.{Instruction, Word, Byte, Zero, Align, Ascii}
+use Rattle.dm_asm.specs.declared.forms.Form.TheVariants.{Instruction, Calling, Word, Byte, Zero, Align, Ascii, Equ}
 use Rattle.dm_asm.specs.declared.forms.Shape.{Shape}
 use Rattle.dm_asm.specs.declared.forms.Shape.TheVariants.{RegisterValue, TwoRegisters, ThreeRegisters, Access, Jump, Branch, Call}
 
--- the instruction or directive that a word names
+-- a call with operands, or what else a word names
+abbrev pub calling_or : Option CallWord → Option Form → Option Form
+calling_or None other = other
+calling_or (Some c) other = Some (Calling c)
+
+-- the instruction, call with operands or directive that a word names
 unfoldable pub form_of : List ℕ → Option Form
 form_of word =
     if bytes_eq word (codes ".word") then Some Word
     else (if bytes_eq word (codes ".byte") then Some Byte
     else (if bytes_eq word (codes ".zero") then Some Zero
     else (if bytes_eq word (codes ".align") then Some Align
-    else (if bytes_eq word (codes ".ascii") then Some Ascii else option_map Instruction (find (λ op. bytes_eq word (opcode_word op)) opcodes)))))
+    else (if bytes_eq word (codes ".ascii") then Some Ascii
+    else (if bytes_eq word (codes ".equ") then Some Equ
+    else calling_or (find (λ c. bytes_eq word (call_word c)) call_words) (option_map Instruction (find (λ op. bytes_eq word (opcode_word op)) opcodes)))))))
 
 -- what the operands of an instruction are
 abbrev pub shape_of : Opcode → Shape

@@ -1,4 +1,6 @@
 pub mod Assembled
+pub mod Calls
+pub mod Expanded
 pub mod Forms
 pub mod Labels
 pub mod Lines

@@ -1,11 +1,12 @@
 -- The values of operands, one after the other.
-use Rattle.std.specs.Prelude.{ℕ, ◌==◌, ◌&&◌, nat_lt, nat_le, ◌+◌, ◌-◌, ◌/◌, ◌%◌, if◌then◌else◌, Option, None, Some, ok_or, Result, Ok, Err, List, [], ◌∷◌}
+use Rattle.std.specs.Prelude.{ℕ, Bool, ◌==◌, ◌&&◌, nat_lt, nat_le, ◌+◌, ◌-◌, ◌/◌, ◌%◌, if◌then◌else◌, Option, None, Some, ok_or, Result, Ok, Err, List, [], ◌∷◌, take, drop}
+use Rattle.std.specs.List.{position}
 use Rattle.dm_asm.specs.declared.forms.Shape.{Shape}
 use Rattle.dm_asm.specs.declared.forms.Shape.TheVariants.{RegisterValue, TwoRegisters, ThreeRegisters, Access, Jump, Branch, Call}
 use Rattle.dm_asm.specs.declared.labels.Place.{Place}
 use Rattle.dm_asm.specs.declared.refusals.Why.{Why}
 use Rattle.dm_asm.specs.declared.refusals.Why.TheVariants.{BadRegister, BadNumber, OutOfRange, UnknownLabel, OperandCount}
-use Rattle.dm_asm.specs.Numbers.{begins_name, call_named, is_multiple, literal_value, register_of}
+use Rattle.dm_asm.specs.Numbers.{begins_name, call_named, is_label_name, is_multiple, literal_value, register_of}
 use Rattle.dm_asm.specs.Refusals.{◌>>=◌}
 
 -- a number that is at most so large
@@ -20,10 +21,22 @@ wanted_number most n = ok_or n BadNumber >>= within_range most
 abbrev pub wanted_multiple : Option ℕ → Result ℕ Why
 wanted_multiple n = ok_or n BadNumber >>= λ m. if is_multiple m then Ok m else Err OutOfRange
 
--- a number or a label
+-- a plus sign
+abbrev pub is_plus : ℕ → Bool
+is_plus c = c == 43
+
+-- a label's value and a number more
+abbrev pub value_behind : (List ℕ → Option Place) → ℕ → List ℕ → ℕ → Result ℕ Why
+value_behind places most name more = ok_or (places name) UnknownLabel >>= λ place. within_range most (place.address + more)
+
+-- a label's value, or that and the number behind a plus sign at a place of the word
+abbrev pub named_value : (List ℕ → Option Place) → ℕ → List ℕ → Option ℕ → Result ℕ Why
+named_value places most word None = value_behind places most word 0
+named_value places most word (Some i) = ok_or (literal_value (drop (i + 1) word)) BadNumber >>= value_behind places most (take i word)
+
+-- a number, a label, or a label and a number more
 unfoldable pub operand_value : (List ℕ → Option Place) → ℕ → List ℕ → Result ℕ Why
-operand_value places most word =
-    if begins_name word then ok_or (places word) UnknownLabel >>= (λ place. within_range most place.address) else wanted_number most (literal_value word)
+operand_value places most word = if begins_name word then named_value places most word (position is_plus word) else wanted_number most (literal_value word)
 
 -- the number of a call that is named, or else what follows
 abbrev pub named_or : Option ℕ → Result ℕ Why → Result ℕ Why
@@ -59,6 +72,14 @@ register ws = next_operand (λ w. ok_or (register_of w) BadRegister) ws
 -- a number that is at most so large
 unfoldable pub number_operand : ℕ → List (List ℕ) → Result (ℕ × List (List ℕ)) Why
 number_operand most ws = next_operand (λ w. wanted_number most (literal_value w)) ws
+
+-- a label to which .equ may give a value; it counts 0
+abbrev pub wanted_name : List ℕ → Result ℕ Why
+wanted_name word = if is_label_name word then Ok 0 else Err BadNumber
+
+-- such a label
+unfoldable pub name_operand : List (List ℕ) → Result (ℕ × List (List ℕ)) Why
+name_operand ws = next_operand wanted_name ws
 
 -- a number of which an address is to be a multiple
 unfoldable pub multiple : List (List ℕ) → Result (ℕ × List (List ℕ)) Why

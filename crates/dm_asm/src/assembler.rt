@@ -7,7 +7,7 @@ ghost use Rattle.dm_asm.specs.Refusals.{Gives};
 ghost use Rattle.dm_asm.specs.Statements.{line_bytes};
 
 use crate::image::Image;
-use crate::labels::{Labels, split_label};
+use crate::labels::{Labels, is_misplaced, split_label};
 use crate::lines::uncommented;
 use crate::refusals::{AssembleError, Stop, Why};
 use crate::statements::add_statement;
@@ -29,6 +29,9 @@ fn add_line(labels: &Labels, image: &mut Vec<u8>, number: usize, line: &[u8]) ->
     ensures most { OnOk result (length image.new.items ≤ MOST_MEMORY) }
 {
     let line = uncommented(line);
+    if is_misplaced(line) {
+        return Err(Stop::Fault(Why::UnknownWord));
+    }
     let (label, statement) = split_label(line);
     let twice = labels.is_twice(number, label);
     add_statement(labels, image, twice, line, statement)?;

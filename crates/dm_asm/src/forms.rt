@@ -1,17 +1,22 @@
-//! Instructions and directives by their words.
-ghost use Rattle.std.specs.Prelude.{◌≡◌};
+//! Instructions, calls with operands and directives by their words.
+ghost use Rattle.std.specs.Prelude.{◌≡◌, option_map};
 ghost use Rattle.std.specs.List.{find};
 ghost use Rattle.std.specs.Str.{bytes_eq};
+ghost use Rattle.dm_asm.specs.Calls.{call_word, call_words};
 ghost use Rattle.dm_processor.specs.Opcodes.{opcode_word, opcodes};
-ghost use Rattle.dm_asm.specs.Forms.{form_of, operand_count, shape_of};
+ghost use Rattle.dm_asm.specs.Forms.{calling_or, form_of, operand_count, shape_of};
+ghost use Rattle.dm_asm.specs.declared.forms.Form.TheVariants.{Instruction};
 
+use crate::calls::CallWord;
 use dm_processor::Opcode;
 
-/// An instruction, or a directive.
+/// An instruction, a call with operands, or a directive.
 #[derive(Clone, Copy)]
 pub enum Form {
     /// An instruction.
     Instruction(Opcode),
+    /// A call with operands.
+    Calling(CallWord),
     /// `.word`: one word.
     Word,
     /// `.byte`: bytes.
@@ -22,6 +27,8 @@ pub enum Form {
     Align,
     /// `.ascii`: a text.
     Ascii,
+    /// `.equ`: a label's value.
+    Equ,
 }
 
 /// What the operands of an instruction are.
@@ -102,8 +109,18 @@ fn opcode_named(word: &[u8]) -> Option<Opcode>
     OPCODES.iter().copied().find(|op| word == word_of(*op))
 }
 
+/// The instruction or call with operands that a word names.
+fn form_named(word: &[u8]) -> Option<Form>
+    ensures { result ≡ calling_or (find (λ c. bytes_eq word.now (call_word c)) call_words) (option_map Instruction (find (λ op. bytes_eq word.now (opcode_word op)) opcodes)) }
+{
+    match CallWord::from_word(word) {
+        Some(call) => Some(Form::Calling(call)),
+        None => opcode_named(word).map(Form::Instruction),
+    }
+}
+
 impl Form {
-    /// The instruction or directive that a word names.
+    /// The instruction, call with operands or directive that a word names.
     #[tactic(auto, unfolding(crate::specs::Forms::form_of))]
     pub fn from_word(word: &[u8]) -> Option<Form>
         ensures { result ≡ form_of word.now }
@@ -118,8 +135,10 @@ impl Form {
             Some(Form::Align)
         } else if word == b".ascii".as_slice() {
             Some(Form::Ascii)
+        } else if word == b".equ".as_slice() {
+            Some(Form::Equ)
         } else {
-            opcode_named(word).map(Form::Instruction)
+            form_named(word)
         }
     }
 }

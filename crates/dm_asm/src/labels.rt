@@ -1,12 +1,12 @@
 //! Where labels stand.
-ghost use Rattle.std.specs.Prelude.{◌≡◌, ◌==◌, ◌<◌, ◌≤◌, ℕ, List, IfOk, None, OnOk, Some, false, if◌then◌else◌, not, option_map, unwrap_or};
+ghost use Rattle.std.specs.Prelude.{◌≡◌, ◌==◌, ◌<◌, ◌≤◌, ◌∷◌, [], ℕ, List, IfOk, None, OnOk, Some, false, if◌then◌else◌, not, option_map, unwrap_or};
 ghost use Rattle.std.specs.Option.{option_copied};
 ghost use Rattle.std.specs.Str.{bytes_eq};
 ghost use Rattle.dm_reading.specs.Words.{source_words};
 ghost use Rattle.dm_asm.specs.Assembled.{places_of};
 ghost use Rattle.dm_asm.specs.Labels.{place_in};
 ghost use Rattle.dm_asm.specs.Lines.{without_comment};
-ghost use Rattle.dm_asm.specs.Places.{behind_label, first_of, has_label, label_in, label_of_words, line_size, padding, padding_size, statement_size, text_size, zeros_size};
+ghost use Rattle.dm_asm.specs.Places.{begins_equ, behind_label, first_of, has_label, is_equ, is_misplaced, label_given, label_in, label_of_words, label_or_given, label_value, line_size, line_value, number_given, padding, padding_size, statement_size, text_size, zeros_size};
 ghost use Rattle.dm_asm.specs.Statements.{is_twice};
 ghost use Rattle.dm_asm.specs.Texts.{text_in, text_operand};
 
@@ -24,7 +24,7 @@ use std::collections::BTreeMap;
 pub struct Place {
     /// The line, from 1.
     pub line: usize,
-    /// The byte address: how many bytes the lines before it count.
+    /// The label's value. Its byte address, which is how many bytes the lines before it count; or the number that `.equ` gives it.
     pub address: u128,
 }
 
@@ -79,7 +79,35 @@ fn label_of_word(word: &[u8]) -> Option<&[u8]>
     }
 }
 
-/// The label of a line without its comment, and what stands behind it.
+/// Whether a word is `.equ`, which gives a label a value of its own.
+fn is_equ(word: &[u8]) -> bool
+    ensures { result ≡ is_equ word.now }
+{
+    word == b".equ".as_slice()
+}
+
+/// The label to which `.equ` gives a value, by what stands behind it.
+fn label_given(operands: &[u8]) -> Option<&[u8]>
+    ensures { option_copied result ≡ label_given (source_words operands.now) }
+{
+    match next_word(operands, Gap::Separators) {
+        Some((name, _)) if is_label(name) => Some(name),
+        _ => None,
+    }
+}
+
+/// The label to which a line gives a value, whose first word has no colon.
+fn given_by<'l>(word: &[u8], rest: &'l [u8]) -> Option<&'l [u8]>
+    ensures { option_copied result ≡ label_or_given None word.now (source_words rest.now) }
+{
+    if is_equ(word) {
+        label_given(rest)
+    } else {
+        None
+    }
+}
+
+/// The label of a line without its comment, and what stands behind it; all of the line, where it has no colon.
 pub fn split_label(line: &[u8]) -> (Option<&[u8]>, &[u8])
     ensures label { option_copied result.0 ≡ label_of_words (source_words line.now) }
     ensures rest { source_words result.1.now ≡ behind_label (source_words line.now) }
@@ -88,8 +116,65 @@ pub fn split_label(line: &[u8]) -> (Option<&[u8]>, &[u8])
         None => (None, line),
         Some((word, rest)) => match label_of_word(word) {
             Some(name) => (Some(name), rest),
-            None => (None, line),
+            None => (given_by(word, rest), line),
         },
+    }
+}
+
+/// Whether a line begins with `.equ`.
+fn begins_equ(line: &[u8]) -> bool
+    ensures { result ≡ begins_equ (source_words line.now) }
+{
+    match next_word(line, Gap::Separators) {
+        Some((word, _)) => is_equ(word),
+        None => false,
+    }
+}
+
+/// Whether `.equ` stands behind the label of a line without its comment, where it can't.
+pub fn is_misplaced(line: &[u8]) -> bool
+    ensures { result ≡ is_misplaced (source_words line.now) }
+{
+    match next_word(line, Gap::Separators) {
+        Some((word, rest)) if label_of_word(word).is_some() => begins_equ(rest),
+        _ => false,
+    }
+}
+
+/// The number that a line begins with, if it is one below 2^32.
+fn second_given(rest: &[u8]) -> u128
+    ensures { (name : List ℕ) (w : List ℕ) → source_words rest.now ≡ w ∷ [] → result ≡ number_given (name ∷ w ∷ []) }
+{
+    match next_word(rest, Gap::Separators) {
+        Some((word, _)) => match number(word) {
+            Some(n) if n <= 4_294_967_295 => u128::from(n),
+            _ => 0,
+        },
+        None => 0,
+    }
+}
+
+/// The number that `.equ` gives, by what stands behind it, if that is a good one.
+fn number_given(operands: &[u8]) -> u128
+    ensures { result ≡ number_given (source_words operands.now) }
+{
+    if count_words(operands, Gap::Separators) != 2 {
+        return 0;
+    }
+    match next_word(operands, Gap::Separators) {
+        None => 0,
+        Some((_, rest)) => second_given(rest),
+    }
+}
+
+/// The value of the label of a line at an address.
+#[tactic(auto, unfolding(crate::specs::Places::line_value))]
+pub(crate) fn value_of(at: u128, line: &[u8]) -> u128
+    ensures { result ≡ line_value at line.now }
+{
+    match next_word(uncommented(line), Gap::Separators) {
+        Some((word, rest)) if is_equ(word) => number_given(rest),
+        _ => at,
     }
 }
 
@@ -163,10 +248,12 @@ fn statement_counted(at: u128, line: &[u8], statement: &[u8]) -> usize
         Some((word, operands)) => match Form::from_word(word) {
             None => 0,
             Some(Form::Instruction(_) | Form::Word) => 4,
+            Some(Form::Calling(call)) => 4 * usize::from(call.registers()) + 4,
             Some(Form::Byte) => count_words(operands, Gap::Separators),
             Some(Form::Zero) => zeros_counted(operands),
             Some(Form::Align) => padding_counted(at, operands),
             Some(Form::Ascii) => text_counted(line, operands),
+            Some(Form::Equ) => 0,
         },
     }
 }
@@ -182,13 +269,19 @@ fn stands_elsewhere(line: usize, place: Option<Place>) -> bool
 }
 
 impl<'t> Labels<'t> {
-    /// Defines the label of a line, if it has one and that isn't defined.
+    /// Defines the label of a line at a place, if it has one and that isn't defined.
     #[tactic(auto, unfolding(crate::specs::Places::has_label))]
     fn add_line(&mut self, line: &'t [u8], place: Place) -> Result<(), NoMemory>
-        ensures ok { OnOk result ((q : List ℕ) → place_in self.new q ≡ first_of (place_in self.old q) (if has_label line.now q then Some place else None)) }
+        ensures ok { OnOk result ((q : List ℕ) → place_in self.new q ≡ first_of (place_in self.old q) (if has_label line.now q then Some (record { line = place.line; address = line_value place.address line.now }) else None)) }
     {
         match defined_by(line) {
-            Some(name) => self.define(name, place),
+            Some(name) => self.define(
+                name,
+                Place {
+                    line: place.line,
+                    address: value_of(place.address, line),
+                },
+            ),
             None => Ok(()),
         }
     }

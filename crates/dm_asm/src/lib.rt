@@ -2,6 +2,7 @@
 #![tactic(auto)]
 
 mod assembler;
+pub mod calls;
 pub mod forms;
 mod image;
 pub mod labels;

@@ -1,19 +1,29 @@
 //! Numbers, registers and names as they are written.
 ghost use Rattle.std.specs.Prelude.{◌≡◌, ◌<◌, ◌^◌, IfSome, min, option_map};
 ghost use Rattle.std.specs.List.{list_all};
-ghost use Rattle.dm_asm.specs.Numbers.{begins_name, call_named, is_label_name, is_name_part, literal_value, register_of};
+ghost use Rattle.dm_asm.specs.Numbers.{begins_name, call_named, is_character, is_label_name, is_name_part, literal_value, register_of};
 
+use crate::texts::is_printed;
 use dm_reading::{Base, capped_number};
 
 /// Numbers from here on are not told apart.
 const HUGE: u64 = 1 << 32;
+
+/// Whether a word is a printed byte between apostrophes.
+fn is_character(word: &[u8]) -> bool
+    ensures { result ≡ is_character word.now }
+{
+    word.len() == 3 && word[0] == b'\'' && word[2] == b'\'' && is_printed(word[1])
+}
 
 /// The number that a word is, at most [`HUGE`].
 #[tactic(auto, unfolding(crate::specs::Numbers::literal_value))]
 pub(crate) fn number(word: &[u8]) -> Option<u64>
     ensures { result ≡ option_map (λ n. min n (2 ^ 32)) (literal_value word.now) }
 {
-    if word.len() > 2 && word[0] == b'0' && word[1] == b'x' {
+    if is_character(word) {
+        Some(u64::from(word[1]))
+    } else if word.len() > 2 && word[0] == b'0' && word[1] == b'x' {
         capped_number(Base::Sixteen, &word[2..], HUGE)
     } else if word.is_empty() {
         None
@@ -48,14 +58,14 @@ fn has_name_parts(word: &[u8]) -> bool
     word.iter().all(|c| can_be_in_name(*c))
 }
 
-/// Whether a word is a label's name: 1 to 16 of `a-z`, `0-9` and `_`, the first no digit.
+/// Whether a word is a label's name: 1 to 16 of `a-z`, `0-9` and `_`, the first no digit, and no register.
 pub fn is_label(word: &[u8]) -> bool
     ensures { result ≡ is_label_name word.now }
 {
     if word.is_empty() || word.len() > 16 || word[0].is_ascii_digit() {
         return false;
     }
-    has_name_parts(word)
+    has_name_parts(word) && register(word).is_none()
 }
 
 /// Whether a word is a label where one may stand.

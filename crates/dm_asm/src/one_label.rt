@@ -4,7 +4,7 @@ ghost use Rattle.dm_asm.specs.Assembled.{places_of};
 ghost use Rattle.dm_asm.specs.Places.{has_label, place_from};
 ghost use Rattle.dm_reading.specs.Lines.{source_lines};
 
-use crate::labels::{Place, defined_by, line_counted};
+use crate::labels::{Place, defined_by, line_counted, value_of};
 use dm_reading::first_source_line;
 
 /// Whether a line has a label.
@@ -18,7 +18,7 @@ fn has_label(line: &[u8], name: &[u8]) -> bool
     }
 }
 
-/// The first line of a text with a label, and its address.
+/// The first line of a text with a label, and its value.
 #[tactic(auto, using(crate::proofs::Labelled::label_lemmas))]
 fn place_of(text: &[u8], name: &[u8]) -> Option<Place>
     ensures { result ≡ place_from 1 0 (source_lines text.now) name.now }
@@ -31,7 +31,10 @@ fn place_of(text: &[u8], name: &[u8]) -> Option<Place>
     while !rest.is_empty() {
         let (line, behind) = first_source_line(rest);
         if has_label(line, name) {
-            return Some(place);
+            return Some(Place {
+                line: place.line,
+                address: value_of(place.address, line),
+            });
         }
         place = Place {
             line: place.line + 1,
@@ -42,7 +45,7 @@ fn place_of(text: &[u8], name: &[u8]) -> Option<Place>
     None
 }
 
-/// The byte address of a label of a text, if it has the label. It needs no memory, and reads the text up to it.
+/// The value of a label of a text, if it has the label: its byte address, or what `.equ` gives it. It needs no memory, and reads the text up to it.
 #[tactic(auto, unfolding(crate::specs::Assembled::places_of))]
 pub fn label_address(text: &str, name: &str) -> Option<u128>
     ensures { result ≡ option_map (λ p. p.address) (places_of text.now name.now) }

@@ -4,13 +4,14 @@ ghost use Rattle.dm_reading.specs.Words.{source_words};
 ghost use Rattle.dm_asm.specs.declared.forms.Shape.TheVariants as shape;
 ghost use Rattle.dm_asm.specs.declared.labels.Place.{Place};
 ghost use Rattle.dm_asm.specs.Labels.{place_in};
+ghost use Rattle.std.specs.List.{position};
 ghost use Rattle.dm_asm.specs.Numbers.{literal_value};
-ghost use Rattle.dm_asm.specs.Operands.{call_operand, call_value, distance, distance_of, fields, number_operand, multiple, operand_value, register, target, value, wanted_multiple, wanted_number};
+ghost use Rattle.dm_asm.specs.Operands.{call_operand, call_value, distance, distance_of, fields, is_plus, name_operand, named_value, number_operand, multiple, operand_value, register, target, value, value_behind, wanted_multiple, wanted_name, wanted_number};
 ghost use Rattle.dm_asm.specs.Seen.{seen};
 
 use crate::forms::Shape;
 use crate::labels::Labels;
-use crate::numbers::{call_named, looks_like_label, number, register};
+use crate::numbers::{call_named, is_label, looks_like_label, number, register};
 use crate::refusals::Why;
 use dm_reading::{Gap, next_word};
 
@@ -47,12 +48,49 @@ pub fn multiple_within(word: &[u8]) -> Result<u32, Why>
     }
 }
 
-/// A number or a label's address that a word must be, at most so large.
+/// Where the first plus sign stands.
+fn plus_in(word: &[u8]) -> Option<usize>
+    ensures { result ≡ position is_plus word.now }
+{
+    word.iter().position(|c| *c == b'+')
+}
+
+/// A label's value and a number more, at most so large.
+fn value_behind(labels: &Labels, name: &[u8], more: u64, most: u32) -> Result<u32, Why>
+    ensures value { result ≡ value_behind (place_in labels.now) most name.now more }
+    ensures small { IfOk result (λ n. n ≤ most) }
+{
+    let most = u128::from(most);
+    let more = u128::from(more);
+    match labels.place(name) {
+        None => Err(Why::UnknownLabel),
+        Some(place) if place.address <= most && place.address + more <= most => {
+            Ok((place.address + more) as u32)
+        }
+        Some(_) => Err(Why::OutOfRange),
+    }
+}
+
+/// A label's value, or that and the number behind a plus sign, at most so large.
+fn named_value(labels: &Labels, word: &[u8], most: u32) -> Result<u32, Why>
+    ensures value { result ≡ named_value (place_in labels.now) most word.now (position is_plus word.now) }
+    ensures small { IfOk result (λ n. n ≤ most) }
+{
+    match plus_in(word) {
+        None => value_behind(labels, word, 0, most),
+        Some(at) => match number(&word[at + 1..]) {
+            None => Err(Why::BadNumber),
+            Some(more) => value_behind(labels, &word[..at], more, most),
+        },
+    }
+}
+
+/// A number, a label's value, or that and a number more, that a word must be, at most so large.
 ///
 /// # Errors
 ///
-/// The word looks like a label, and no line has it ([`Why::UnknownLabel`]); it is no number ([`Why::BadNumber`]); or the
-/// number or address is larger ([`Why::OutOfRange`]).
+/// The word is no number, or none stands behind its plus sign ([`Why::BadNumber`]); it looks like a label, and no line has it
+/// ([`Why::UnknownLabel`]); or the value is larger ([`Why::OutOfRange`]).
 #[tactic(auto, unfolding(crate::specs::Operands::operand_value))]
 pub fn value_within(labels: &Labels, word: &[u8], most: u32) -> Result<u32, Why>
     ensures value { result ≡ operand_value (place_in labels.now) most word.now }
@@ -61,11 +99,7 @@ pub fn value_within(labels: &Labels, word: &[u8], most: u32) -> Result<u32, Why>
     if !looks_like_label(word) {
         return number_within(word, most);
     }
-    match labels.place(word) {
-        None => Err(Why::UnknownLabel),
-        Some(place) if place.address <= u128::from(most) => Ok(place.address as u32),
-        Some(_) => Err(Why::OutOfRange),
-    }
+    named_value(labels, word, most)
 }
 
 /// The number of a call that a word must be, at most 255, or name.
@@ -159,6 +193,35 @@ pub(crate) fn next_number(rest: &[u8], most: u32) -> Result<(u32, &[u8]), Why>
     }
 }
 
+/// Whether a word is a label to which `.equ` may give a value.
+///
+/// # Errors
+///
+/// It is none ([`Why::BadNumber`]).
+pub fn name_within(word: &[u8]) -> Result<u8, Why>
+    ensures { result ≡ wanted_name word.now }
+{
+    if is_label(word) {
+        Ok(0)
+    } else {
+        Err(Why::BadNumber)
+    }
+}
+
+/// The label that the next word must be to which `.equ` may give a value, and what stands behind it.
+#[tactic(auto, unfolding(crate::specs::Operands::name_operand))]
+pub(crate) fn next_name(rest: &[u8]) -> Result<(u8, &[u8]), Why>
+    ensures { seen result ≡ name_operand (source_words rest.now) }
+{
+    match next_word(rest, Gap::Separators) {
+        None => Err(Why::OperandCount),
+        Some((word, behind)) => match name_within(word) {
+            Err(why) => Err(why),
+            Ok(n) => Ok((n, behind)),
+        },
+    }
+}
+
 /// The number that the next word must be of which an address is to be a multiple, and what stands behind it.
 #[tactic(auto, unfolding(crate::specs::Operands::multiple))]
 pub(crate) fn next_multiple(rest: &[u8]) -> Result<(u32, &[u8]), Why>
@@ -224,7 +287,7 @@ fn next_target<'r>(labels: &Labels, rest: &'r [u8], at: usize) -> Result<(u8, &'
 }
 
 /// The two bytes of a number below 65,536.
-fn two_bytes(n: u32) -> (u8, u8)
+pub(crate) fn two_bytes(n: u32) -> (u8, u8)
     requires { n ≤ 65535 }
     ensures high { result.0 ≡ n / 256 }
     ensures low { result.1 ≡ n % 256 }

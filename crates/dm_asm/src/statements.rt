@@ -1,15 +1,18 @@
 //! The bytes of statements.
-ghost use Rattle.std.specs.Prelude.{◌≡◌, None, length};
+ghost use Rattle.std.specs.Prelude.{◌≡◌, None, length, true};
 ghost use Rattle.dm_reading.specs.Words.{source_words};
 ghost use Rattle.dm_asm.specs.Labels.{place_in};
 ghost use Rattle.dm_asm.specs.Refusals.{Gives, bytes_behind};
 ghost use Rattle.dm_asm.specs.Statements.{form_bytes, instruction_bytes, listed_bytes, statement_bytes, takes_operands};
-ghost use Rattle.dm_asm.specs.declared.forms.Form.TheVariants.{Align, Ascii, Byte, Word, Zero};
+ghost use Rattle.dm_asm.specs.declared.forms.Form.TheVariants.{Align, Ascii, Byte, Equ, Word, Zero};
 ghost use Rattle.dm_asm.specs.Texts.{text_in, text_operand};
 
+use crate::calls::add_call;
 use crate::forms::{Form, Shape};
 use crate::labels::{Labels, padding};
-use crate::operands::{last_bytes, next_multiple, next_number, next_value, number_within};
+use crate::operands::{
+    last_bytes, next_multiple, next_name, next_number, next_value, number_within,
+};
 use crate::refusals::{Stop, Why};
 use crate::texts::text_operand;
 use byteorder::{BigEndian, ByteOrder};
@@ -96,18 +99,30 @@ fn add_text(labels: &Labels, image: &mut Vec<u8>, line: &[u8], operands: &[u8]) 
     }
 }
 
-/// Whether an instruction or directive can have so many operands.
+/// Adds nothing where `.equ` gives a name a number.
+fn add_nothing(labels: &Labels, image: &Vec<u8>, operands: &[u8]) -> Result<(), Stop>
+    ensures { Gives (λ _. image.now.items) result
+        (bytes_behind image.now.items (form_bytes (place_in labels.now) (length image.now.items) None Equ (source_words operands.now))) }
+{
+    let (_, rest) = next_name(operands)?;
+    let _ = next_number(rest, u32::MAX)?;
+    Ok(())
+}
+
+/// Whether an instruction, call or directive can have so many operands.
 fn can_have(form: Form, operands: usize) -> bool
     ensures { result ≡ takes_operands form operands }
 {
     match form {
         Form::Instruction(op) => operands == Shape::of(op).operands(),
+        Form::Calling(call) => call.takes(operands),
         Form::Word | Form::Zero | Form::Align => operands == 1,
         Form::Byte | Form::Ascii => operands > 0,
+        Form::Equ => operands == 2,
     }
 }
 
-/// Adds what an instruction or directive with its operands is, in a line without its comment.
+/// Adds what an instruction, call or directive with its operands is, in a line without its comment.
 fn add_form(
     labels: &Labels,
     image: &mut Vec<u8>,
@@ -115,16 +130,19 @@ fn add_form(
     line: &[u8],
     operands: &[u8],
 ) -> Result<(), Stop>
+    requires { takes_operands form (length (source_words operands.now)) ≡ true }
     ensures { Gives (λ _. image.new.items) result
         (bytes_behind image.old.items (form_bytes (place_in labels.now) (length image.old.items) (text_in line.now) form (source_words operands.now))) }
 {
     match form {
         Form::Instruction(op) => add_instruction(labels, image, op, operands),
+        Form::Calling(call) => add_call(labels, image, call, operands),
         Form::Word => add_word(labels, image, operands),
         Form::Byte => add_listed(image, operands),
         Form::Zero => add_zeros(labels, image, operands),
         Form::Align => add_padding(labels, image, operands),
         Form::Ascii => add_text(labels, image, line, operands),
+        Form::Equ => add_nothing(labels, image, operands),
     }
 }
 

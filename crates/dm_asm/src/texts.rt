@@ -14,7 +14,7 @@ fn quote_in(bytes: &[u8]) -> Option<usize>
 }
 
 /// Whether a byte is printed.
-fn is_printed(c: u8) -> bool
+pub(crate) fn is_printed(c: u8) -> bool
     ensures { result ≡ is_printed c }
 {
     matches!(c, b' '..=b'~')

@@ -8,7 +8,7 @@ use Rattle.dm_chart.specs.declared.role.Role.TheVariants as role
 use Rattle.dm_chart.specs.declared.style.Style.{Style}
 use Rattle.dm_chart.specs.Drawn.{by_layer, draw_arrow, draw_bar, draw_hidden_arrow, draw_lost, draw_marked, draw_moves, draw_packet, draw_shown_arrow, draw_waits, draw_way, letter_words}
 unfoldable use Rattle.dm_chart.specs.Drawn.{draw_beside}
-use Rattle.dm_chart.specs.Left.{bar_in, bar_shows, end_seen, end_shows, letter_shows, move_in, move_shows, packet_shows, wait_in, wait_shows}
+use Rattle.dm_chart.specs.Layers.{bar_in, bar_shows, end_seen, end_shows, letter_shows, move_in, move_shows, packet_shows, wait_in, wait_shows}
 use Rattle.dm_chart.specs.Measures.{lane_of}
 use Rattle.dm_chart.specs.Styles.{label_class}
 unfoldable use Rattle.dm_chart.specs.Shapes.{deliveries}

@@ -63,11 +63,11 @@ below-more text done n = append_assoc done (each_below text n) (text n) ∙ ap (
 
 pub ruleset below_lemmas = (below-none, below-more)
 
--- four pieces, one behind another
-pub four-pieces : (t u v w a b c d : List ℕ) → u ≡ t ++ a → v ≡ u ++ b → w ≡ v ++ c → w ++ d ≡ t ++ (((a ++ b) ++ c) ++ d)
-four-pieces t u v w a b c d e f g =
-    ap (λ x. x ++ d) (g ∙ ap (λ x. x ++ c) (f ∙ ap (λ x. x ++ b) e))
-    ∙ (ap (λ x. (x ++ c) ++ d) (append_assoc t a b) ∙ (ap (λ x. x ++ d) (append_assoc t (a ++ b) c) ∙ append_assoc t ((a ++ b) ++ c) d))
+-- three pieces, one behind another
+pub three-pieces : (t u v a b c : List ℕ) → u ≡ t ++ a → v ≡ u ++ b → v ++ c ≡ t ++ ((a ++ b) ++ c)
+three-pieces t u v a b c e f =
+    ap (λ x. x ++ c) (f ∙ ap (λ x. x ++ b) e)
+    ∙ (ap (λ x. x ++ c) (append_assoc t a b) ∙ append_assoc t (a ++ b) c)
 
 -- a number and a name, and what stands before them
 pub named : (t u number space name : List ℕ) → u ≡ t ++ concat (number ∷ space ∷ []) → u ++ name ≡ t ++ concat (number ∷ space ∷ name ∷ [])

@@ -7,7 +7,6 @@ use Rattle.dm_link.specs.declared.Pid.{Pid}
 use Rattle.dm_line.specs.declared.line.Line.{Line}
 use Rattle.dm_chart.specs.declared.frame.Frame.{Frame}
 use Rattle.dm_chart.specs.declared.frame.Layer.{Layer}
-use Rattle.dm_chart.specs.declared.frame.Layer.TheVariants as layer
 use Rattle.dm_chart.specs.declared.role.Letter.{Letter}
 use Rattle.dm_chart.specs.declared.role.Life.{Life}
 use Rattle.dm_chart.specs.declared.role.Life.TheVariants as life
@@ -19,7 +18,7 @@ use Rattle.dm_chart.specs.Behind.{number_among}
 use Rattle.dm_chart.specs.Drawn.{all_drawn}
 use Rattle.dm_chart.specs.Measures.{lane_of}
 use Rattle.dm_chart.specs.Roles.{role_of}
-use Rattle.dm_chart.specs.Shapes.{comes_at, line_shapes}
+use Rattle.dm_chart.specs.Shapes.{line_shapes}
 
 -- how many messages these lines put from each of sixteen machines to each
 abbrev pub AreCounts : List ℕ → List Line → Type 0
@@ -110,46 +109,3 @@ pub record AreLeft (rows hidden : ℕ) (by : Layer → Frame) (all : List Line) 
 
 abbrev pub IsLeft : Frame → List Line → List Bool → Type 0
 IsLeft f all left = AreLeft f.rows f.hidden (λ y. record f { layer = y }) all left
-
--- in which layers something of a message is drawn, where it ends, a packet, a process's bar, that it waits and that it moves
-abbrev pub letter_shows : Layer → Bool
-letter_shows layer.Grounds = false
-letter_shows layer.Ways = true
-letter_shows layer.Words = true
-
-abbrev pub end_shows : Layer → ℕ → Bool
-end_shows layer.Grounds row = true
-end_shows layer.Ways row = true
-end_shows layer.Words row = row == 0
-
-abbrev pub end_seen : Layer → Letter → List Line → Spot → List Line → Option ℕ
-end_seen y x before s after = if end_shows y s.row then comes_at x.from x.to before s after else None
-
-abbrev pub packet_shows : Layer → Bool
-packet_shows layer.Grounds = false
-packet_shows layer.Ways = true
-packet_shows layer.Words = false
-
-abbrev pub bar_in : Layer → Bool → Bool
-bar_in layer.Grounds lane = lane
-bar_in layer.Ways lane = false
-bar_in layer.Words lane = lane
-
-abbrev pub bar_shows : Frame → Pid → Bool
-bar_shows f p = bar_in f.layer (is_some (lane_of f p))
-
-abbrev pub wait_in : Layer → Bool → Bool
-wait_in layer.Grounds lane = lane
-wait_in layer.Ways lane = false
-wait_in layer.Words lane = false
-
-abbrev pub wait_shows : Frame → Pid → Bool
-wait_shows f p = wait_in f.layer (is_some (lane_of f p))
-
-abbrev pub move_in : Layer → Bool → Bool
-move_in layer.Grounds lane = false
-move_in layer.Ways lane = lane
-move_in layer.Words lane = false
-
-abbrev pub move_shows : Frame → Pid → Bool
-move_shows f p = move_in f.layer (is_some (lane_of f p))

@@ -6,6 +6,7 @@ pub mod Styles
 pub mod Notes
 pub mod Shapes
 pub mod Left
+pub mod Layers
 pub mod Xml
 pub mod Written
 pub mod Measures

@@ -1,5 +1,5 @@
 -- The whole picture.
-use Rattle.std.specs.Prelude.{ℕ, ◌+◌, ◌-◌, ◌==◌, nat_le, if◌then◌else◌, codes, List, [], ◌∷◌, ◌++◌, map, length}
+use Rattle.std.specs.Prelude.{ℕ, ◌+◌, ◌-◌, ◌==◌, nat_le, nat_lt, if◌then◌else◌, codes, List, [], ◌∷◌, ◌++◌, map, length}
 use Rattle.std.specs.List.{concat, flat_map}
 use Rattle.std.specs.Fmt.{decimal}
 use Rattle.dm_link.specs.declared.Pid.{Pid}
@@ -63,33 +63,42 @@ extent f starts =
 unfoldable pub sheet : Frame → ℕ → List ℕ
 sheet f starts = alone (codes "rect") ((codes "width", decimal (breadth f)) ∷ (codes "height", decimal (whole_height f starts)) ∷ (codes "fill", codes "#fff") ∷ [])
 
--- which group is the first to be shown, where that isn't the run's first
-abbrev pub part_words : ℕ → List (List ℕ)
-part_words first = if nat_le first 1 then [] else codes "; from group " ∷ decimal first ∷ []
+-- how much there was
+abbrev pub counts_words : Frame → Kept → List (List ℕ)
+counts_words f k = codes "machines " ∷ decimal f.machines ∷ codes ", groups " ∷ decimal k.groups ∷ codes ", messages " ∷ decimal k.messages ∷ []
 
-unfoldable pub title : ℕ → Kept → List ℕ
-title machines k =
-    written (codes "t") (point 10 20) ((codes "machines " ∷ decimal machines ∷ codes ", groups " ∷ decimal k.groups ∷ codes ", messages " ∷ decimal k.messages ∷ []) ++ part_words k.part.first)
+-- the first group that is to be shown may be none of the run's
+abbrev pub beyond_words : ℕ → ℕ → List ℕ
+beyond_words first groups = if nat_lt groups first then codes ", beyond the last one" else []
+
+-- which group is the first to be shown, where that isn't the run's first
+abbrev pub part_words : ℕ → ℕ → List (List ℕ)
+part_words first groups = if nat_le first 1 then [] else codes "; from group " ∷ decimal first ∷ beyond_words first groups ∷ []
+
+-- how many processes have no lane, where there are some
+abbrev pub bars_words : ℕ → List (List ℕ)
+bars_words n = if n == 0 then [] else codes "; processes without a bar: " ∷ decimal n ∷ []
+
+abbrev pub title_words : Frame → Kept → List ℕ
+title_words f k = concat (counts_words f k) ++ concat (part_words k.part.first k.groups) ++ concat (bars_words (length f.processes - 12))
+
+unfoldable pub title : Frame → Kept → List ℕ
+title f k = element_around (codes "text") ((codes "class", codes "t") ∷ (codes "x", decimal 10) ∷ (codes "y", decimal 20) ∷ []) (title_words f k)
 
 -- words at the foot of the picture, so far from its left side and from its last row, and a number that isn't 0
 unfoldable pub foot_line : Frame → ℕ → ℕ → List ℕ → ℕ → List ℕ
 foot_line f x down words n = if n == 0 then [] else written (codes "q") (point x (height f.rows + down)) (words ∷ decimal n ∷ [])
-
--- how many processes have no lane
-abbrev pub bars_line : Frame → List ℕ
-bars_line f = foot_line f 10 34 (codes "processes without a bar: ") (length f.processes - 12)
 
 -- a run that ended at a worn pair says so
 unfoldable pub reach_line : Frame → Reach → List ℕ
 reach_line f reach.Whole = []
 reach_line f (reach.BeforeWorn from to) = written (codes "q") (point 290 (height f.rows + 34)) (codes "the run ended with status 9, worn: " ∷ decimal from ∷ codes " to " ∷ decimal to ∷ [])
 
--- what the picture leaves out: groups behind those that are shown, what these put, and bars; and why it ends
+-- what the picture leaves out: groups behind those that are shown, and what these put; and why it ends
 unfoldable pub foot : Frame → Kept → Reach → List ℕ
 foot f k r =
     foot_line f 10 20 (codes "groups behind these, left out: ") k.left_groups
     ++ foot_line f 290 20 (codes "messages that they put: ") k.left_messages
-    ++ bars_line f
     ++ reach_line f r
 
 -- process i of the boot file, the first at 0: its number and its name, which has 1 to 16 of a to z, 0 to 9 and _, so that nothing
@@ -108,7 +117,7 @@ names_drawn ps = names_from 0 ps
 
 -- what stands above the legend
 unfoldable pub picture_head : Frame → ℕ → List ℕ → Kept → List ℕ
-picture_head f starts names k = concat style_sheet ++ concat marks ++ sheet f starts ++ title f.machines k ++ names
+picture_head f starts names k = concat style_sheet ++ concat marks ++ sheet f starts ++ title f k ++ names
 
 -- all shapes, a layer on another
 unfoldable pub layers : Frame → List Pid → Kept → List ℕ

@@ -1,10 +1,10 @@
 //! The whole picture.
 ghost use Rattle.std.specs.Prelude.{◌≡◌, ◌≤◌, ◌-◌, ◌++◌, IfOk, OnOk, codes, length, map, option_to_list};
-ghost use Rattle.std.specs.List.{flat_map};
+ghost use Rattle.std.specs.List.{concat, flat_map};
 ghost use Rattle.dm_chart.specs.Drawn.{all_drawn};
 ghost use Rattle.dm_chart.specs.Left.{IsLeft};
 ghost use Rattle.dm_chart.specs.Measures.{name_room};
-ghost use Rattle.dm_chart.specs.Picture.{bars_line, extent, foot, foot_line, frame_of, layers, made_in, made_with, moved_down, picture_body, picture_head, picture_in, picture_of, processes_in, reach_line, sheet, title, way_down};
+ghost use Rattle.dm_chart.specs.Picture.{bars_words, beyond_words, extent, foot, foot_line, frame_of, layers, made_in, made_with, moved_down, part_words, picture_body, picture_head, picture_in, picture_of, processes_in, reach_line, sheet, title, title_words, way_down};
 ghost use Rattle.dm_chart.specs.Roles.{role_of};
 ghost use Rattle.dm_chart.specs.Shapes.{columns, first_bar, shapes};
 ghost use Rattle.dm_chart.specs.Spots.{first_spot};
@@ -239,7 +239,7 @@ fn put_head(into: &mut Vec<u8>, frame: &Frame, starts: &Starts, kept: &Kept) -> 
     put_style_sheet(into)?;
     put_marks(into)?;
     put_sheet(into, frame, starts.pids.len())?;
-    put_title(into, frame.machines, kept)?;
+    put_title(into, frame, kept)?;
     put_bytes(into, starts.names.as_slice())
 }
 
@@ -275,43 +275,78 @@ fn put_sheet(into: &mut Vec<u8>, frame: &Frame, starts: usize) -> Result<(), NoM
     )
 }
 
-/// Writes how much there was.
-#[tactic(auto, unfolding(crate::specs::Picture::title))]
-fn put_title(into: &mut Vec<u8>, machines: u8, kept: &Kept) -> Result<(), NoMemory>
-    ensures { OnOk result (into.new.items ≡ into.old.items ++ title machines kept.now) }
+/// Writes how much there was, where the picture begins, and how many processes have no bar.
+#[tactic(auto, unfolding(crate::specs::Picture::title, crate::specs::Xml::element_around))]
+fn put_title(into: &mut Vec<u8>, frame: &Frame, kept: &Kept) -> Result<(), NoMemory>
+    ensures { OnOk result (into.new.items ≡ into.old.items ++ title frame.now kept.now) }
 {
-    let p = Point { x: 10, y: 20 };
-    if kept.part.first <= 1 {
-        put_written(
-            into,
-            "t",
-            p,
-            &[
-                Name("machines "),
-                Byte(machines),
-                Name(", groups "),
-                Wide(kept.groups),
-                Name(", messages "),
-                Wide(kept.messages),
-            ],
-        )
-    } else {
-        put_written(
-            into,
-            "t",
-            p,
-            &[
-                Name("machines "),
-                Byte(machines),
-                Name(", groups "),
-                Wide(kept.groups),
-                Name(", messages "),
-                Wide(kept.messages),
-                Name("; from group "),
-                Wide(kept.part.first),
-            ],
-        )
+    put_opening(
+        into,
+        "text",
+        &[
+            Attribute("class", Name("t")),
+            Attribute("x", Number(10)),
+            Attribute("y", Number(20)),
+        ],
+    )?;
+    put_title_words(into, frame, kept)?;
+    put_closing(into, "text")
+}
+
+fn put_title_words(into: &mut Vec<u8>, frame: &Frame, kept: &Kept) -> Result<(), NoMemory>
+    ensures { OnOk result (into.new.items ≡ into.old.items ++ title_words frame.now kept.now) }
+{
+    put_words(
+        into,
+        &[
+            Name("machines "),
+            Byte(frame.machines),
+            Name(", groups "),
+            Wide(kept.groups),
+            Name(", messages "),
+            Wide(kept.messages),
+        ],
+    )?;
+    put_part(into, kept.part.first, kept.groups)?;
+    put_without_bar(into, without_lane(frame))
+}
+
+/// Writes which group is the first to be shown, where that isn't the run's first.
+fn put_part(into: &mut Vec<u8>, first: u64, groups: u64) -> Result<(), NoMemory>
+    ensures { OnOk result (into.new.items ≡ into.old.items ++ concat (part_words first groups)) }
+{
+    if first <= 1 {
+        return Ok(());
     }
+    put_words(
+        into,
+        &[
+            Name("; from group "),
+            Wide(first),
+            Name(beyond(first, groups)),
+        ],
+    )
+}
+
+/// What is said of a first group that is none of the run's.
+fn beyond(first: u64, groups: u64) -> &'static str
+    ensures { result.now ≡ beyond_words first groups }
+{
+    if groups < first {
+        ", beyond the last one"
+    } else {
+        ""
+    }
+}
+
+/// Writes how many processes have no lane, where there are some.
+fn put_without_bar(into: &mut Vec<u8>, count: u64) -> Result<(), NoMemory>
+    ensures { OnOk result (into.new.items ≡ into.old.items ++ concat (bars_words count)) }
+{
+    if count == 0 {
+        return Ok(());
+    }
+    put_words(into, &[Name("; processes without a bar: "), Wide(count)])
 }
 
 /// Writes what the picture leaves out, and why it ends.
@@ -335,22 +370,7 @@ fn put_foot(into: &mut Vec<u8>, frame: &Frame, kept: &Kept, reach: Reach) -> Res
         "messages that they put: ",
         kept.left_messages,
     )?;
-    put_bars_line(into, frame)?;
     put_reach(into, frame, reach)
-}
-
-/// Writes how many processes have no lane, where there are some.
-fn put_bars_line(into: &mut Vec<u8>, frame: &Frame) -> Result<(), NoMemory>
-    ensures { OnOk result (into.new.items ≡ into.old.items ++ bars_line frame.now) }
-{
-    put_foot_line(
-        into,
-        frame,
-        10,
-        34,
-        "processes without a bar: ",
-        without_lane(frame),
-    )
 }
 
 /// Writes that a run ended at a worn pair.

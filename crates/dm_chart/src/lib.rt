@@ -9,6 +9,7 @@ mod headings;
 mod kept;
 mod key;
 pub mod laws;
+mod layers;
 mod left;
 mod lines;
 mod notes;

@@ -3,14 +3,16 @@ ghost use Rattle.std.specs.Prelude.{◌≡◌, [], ◌∷◌, ◌++◌, ◌<◌,
 ghost use Rattle.dm_chart.specs.Ahead.{first_ahead, is_end, is_restart};
 ghost use Rattle.dm_chart.specs.Behind.{kills_of, waits_behind};
 ghost use Rattle.dm_chart.specs.Drawn.{all_drawn, draw_note, unless_over};
-ghost use Rattle.dm_chart.specs.Left.{IsLeft, bar_shows, end_seen, end_shows, letter_shows, move_shows, packet_shows, wait_shows};
+ghost use Rattle.dm_chart.specs.Layers.{end_seen};
+ghost use Rattle.dm_chart.specs.Left.{IsLeft};
 ghost use Rattle.dm_chart.specs.Notes.{note_of};
 ghost use Rattle.dm_chart.specs.Shapes.{bar, comes_at, deliveries, fate_here, group_shapes, letter_shapes, life_shapes, line_shapes, moves_shown, own_shapes, row_or, sending_shapes, shapes_from, wait, wait_if};
 ghost use Rattle.dm_chart.specs.Spots.{first_spot};
 
 use crate::bars::{put_bar, put_moves, put_waits};
-use crate::frame::{Frame, Layer, Place, lane_of};
+use crate::frame::{Frame, Place, lane_of};
 use crate::headings::put_group;
+use crate::layers::{bar_shows, end_shows, letter_shows, move_shows, packet_shows, wait_shows};
 use crate::notes::put_note;
 use crate::role::{Letter, Life, Role, role_of};
 use crate::scan::{
@@ -228,66 +230,6 @@ fn end_seen(
         comes_at(letter.from, letter.to, before, spot, after)
     } else {
         None
-    }
-}
-
-/// Whether something of a message is drawn in this layer.
-fn letter_shows(frame: &Frame) -> bool
-    ensures { result ≡ letter_shows frame.now.layer }
-{
-    match frame.layer {
-        Layer::Grounds => false,
-        Layer::Ways | Layer::Words => true,
-    }
-}
-
-/// Whether it is seen in this layer where a message ends.
-fn end_shows(frame: &Frame, spot: Spot) -> bool
-    ensures { result ≡ end_shows frame.now.layer spot.row }
-{
-    match frame.layer {
-        Layer::Grounds | Layer::Ways => true,
-        Layer::Words => spot.row == 0,
-    }
-}
-
-/// Whether something of a packet is drawn in this layer.
-fn packet_shows(frame: &Frame) -> bool
-    ensures { result ≡ packet_shows frame.now.layer }
-{
-    match frame.layer {
-        Layer::Ways => true,
-        Layer::Grounds | Layer::Words => false,
-    }
-}
-
-/// Whether a bar of a process is drawn in this layer, or its name.
-fn bar_shows(frame: &Frame, pid: Pid) -> bool
-    ensures { result ≡ bar_shows frame.now pid }
-{
-    match frame.layer {
-        Layer::Grounds | Layer::Words => lane_of(frame, pid).is_some(),
-        Layer::Ways => false,
-    }
-}
-
-/// Whether it is drawn in this layer that a process waits.
-fn wait_shows(frame: &Frame, pid: Pid) -> bool
-    ensures { result ≡ wait_shows frame.now pid }
-{
-    match frame.layer {
-        Layer::Grounds => lane_of(frame, pid).is_some(),
-        Layer::Ways | Layer::Words => false,
-    }
-}
-
-/// Whether it is drawn in this layer that a process moves.
-fn move_shows(frame: &Frame, pid: Pid) -> bool
-    ensures { result ≡ move_shows frame.now pid }
-{
-    match frame.layer {
-        Layer::Ways => lane_of(frame, pid).is_some(),
-        Layer::Grounds | Layer::Words => false,
     }
 }
 

@@ -15,6 +15,6 @@ counted_tells r tr k b ds before after world d = record {
   Begun = DrillIsBegun r tr k b ds before after world;
   Worn_ = λ from to. DrillWears r tr b ds before after from to;
   is = λ s h. h;
-  done = λ h. d.lasts b ds h.groups h.at h.good h.over h.rests;
+  done = λ h. d.lasts b ds h.groups h.at h.good h.sums.over h.rests;
   worn = λ from to h. (h.groups, h.wears);
 }

@@ -1,14 +1,19 @@
 -- A text gives no image exactly where a line of it is refused.
 use Rattle.dm_explain.proofs.Names.{◌≡◌, ℕ, ◌+◌, ◌<◌, ◌==◌, suc, Bool, true, false, if◌then◌else◌, List, [], ◌∷◌, ◌++◌, length, refl, ap, sym, subst, ◌∙◌, arith, Place, Why, or_why, operand_why, operands_why, source_lines}
 use Rattle.std.proofs.lemmas.List.{length-append, length-replicate}
-use Rattle.std.specs.Prelude.{◌&&◌, nat_le, nat_lt, Option, None, Some, Result, Ok, Err, ok_or, option_map, replicate, unwrap_or}
+use Rattle.std.specs.Prelude.{◌*◌, ◌&&◌, nat_le, nat_lt, Option, None, Some, Result, Ok, Err, ok_or, option_map, replicate, unwrap_or}
 use Rattle.std.specs.Result.{result_err}
 use Rattle.dm_processor.proofs.Names.{nat_tests}
 use Rattle.dm_processor.specs.Opcodes.{opcode_number}
 use Rattle.dm_processor.specs.declared.opcodes.Opcode.{Opcode}
 use Rattle.dm_reading.specs.Words.{source_words}
+use Rattle.dm_asm.proofs.Sizes.{few-operands, rest-length, setting-behind}
+unfoldable use Rattle.dm_asm.specs.Calls.{argument_of, call_bytes, settings}
+use Rattle.dm_asm.specs.Calls.{call_registers, call_rest, call_size, setting, takes_arguments}
+use Rattle.dm_asm.specs.declared.calls.Argument.{Argument}
+use Rattle.dm_asm.specs.declared.calls.CallWord.{CallWord}
 use Rattle.dm_asm.specs.declared.forms.Form.{Form}
-use Rattle.dm_asm.specs.declared.forms.Form.TheVariants.{Instruction, Word, Byte, Zero, Align, Ascii}
+use Rattle.dm_asm.specs.declared.forms.Form.TheVariants.{Instruction, Calling, Word, Byte, Zero, Align, Ascii, Equ}
 use Rattle.dm_asm.specs.declared.forms.Shape.{Shape}
 use Rattle.dm_asm.specs.declared.forms.Shape.TheVariants.{RegisterValue, TwoRegisters, ThreeRegisters, Access, Jump, Branch, Call}
 use Rattle.dm_asm.specs.declared.refusals.Why.TheVariants.{UnknownWord, BadRegister, BadNumber, OutOfRange, LabelTwice, OperandCount, TooLong}
@@ -19,10 +24,10 @@ use Rattle.dm_asm.specs.Forms.{operand_count, shape_of}
 use Rattle.dm_asm.specs.Lines.{without_comment}
 unfoldable use Rattle.dm_asm.specs.Numbers.{literal_value}
 use Rattle.dm_asm.specs.Numbers.{is_multiple, register_of}
-unfoldable use Rattle.dm_asm.specs.Operands.{call_operand, call_value, distance_of, fields, multiple, number_operand, operand_value, register, target, value}
-use Rattle.dm_asm.specs.Operands.{wanted_multiple, wanted_number}
+unfoldable use Rattle.dm_asm.specs.Operands.{call_operand, call_value, distance_of, fields, multiple, name_operand, number_operand, operand_value, register, target, value}
+use Rattle.dm_asm.specs.Operands.{wanted_multiple, wanted_name, wanted_number}
 unfoldable use Rattle.dm_asm.specs.Places.{line_size, padding}
-use Rattle.dm_asm.specs.Places.{behind_label, form_size, label_of_words, statement_size}
+use Rattle.dm_asm.specs.Places.{behind_label, form_size, is_misplaced, label_of_words, statement_size}
 use Rattle.dm_asm.specs.Refusals.{◌>>=◌}
 unfoldable use Rattle.dm_asm.specs.Statements.{line_bytes, listed_bytes, statement_bytes}
 use Rattle.dm_asm.specs.Statements.{form_bytes, instruction_bytes, is_twice, takes_operands}
@@ -124,6 +129,36 @@ listed-of places at i (w ∷ ws) some =
     (sym (byte-why places at i w some))
     (listed-by (length ws) (operands_why places at (takes 0 last.Bytes) (i + 1) ws) (wanted_number 255 (literal_value w)) (listed_bytes ws) (listed-of places at (i + 1) ws (omega (arith, some))))
 
+-- an operand of a call is no register behind which it stands
+argument-why : (places : List ℕ → Option Place) (at : ℕ) (c : CallWord) (i : ℕ) (w : List ℕ) → 0 < i → operand_why places at (takes 0 (last.Arguments c)) i w ≡ result_err (argument_of places c i w)
+unfolding operand_why
+argument-why places at c i w some =
+    let behind : nat_le i 0 ≡ false = grind (arith, nat_tests) in
+    ap (λ (b : Bool). if b then result_err (ok_or (register_of w) BadRegister) else result_err (argument_of places c i w)) behind
+
+-- the instruction for an operand, and the others
+setting-by : (n i : ℕ) (o : Option Why) (r : Result Argument Why) (others : Result (List ℕ) Why) → IsOf n o others → IsOf (4 + n) (or_why (result_err r) o) (r >>= λ a. (others >>= λ bs. Ok (setting i a ++ bs)))
+setting-by n i o (Ok a) others h = of-bytes n (4 + n) o others (λ bs. setting i a ++ bs) h (λ bs e. setting-behind i a bs ∙ ap (λ k. 4 + k) e)
+setting-by n i o (Err why) others h = refl
+
+settings-of : (places : List ℕ → Option Place) (at : ℕ) (c : CallWord) (i : ℕ) (ws : List (List ℕ)) → 0 < i → IsOf (4 * length ws) (operands_why places at (takes 0 (last.Arguments c)) i ws) (settings places c i ws)
+unfolding operands_why settings
+settings-of places at c i [] some = (refl, refl)
+settings-of places at c i (w ∷ ws) some =
+    let size : 4 + 4 * length ws ≡ 4 * length (w ∷ ws) = omega arith in
+    subst (λ n. IsOf n (or_why (operand_why places at (takes 0 (last.Arguments c)) i w) (operands_why places at (takes 0 (last.Arguments c)) (i + 1) ws)) (argument_of places c i w >>= λ a. (settings places c (i + 1) ws >>= λ bs. Ok (setting i a ++ bs)))) size
+    (subst (λ (o : Option Why). IsOf (4 + 4 * length ws) (or_why o (operands_why places at (takes 0 (last.Arguments c)) (i + 1) ws)) (argument_of places c i w >>= λ a. (settings places c (i + 1) ws >>= λ bs. Ok (setting i a ++ bs))))
+    (sym (argument-why places at c i w some))
+    (setting-by (4 * length ws) i (operands_why places at (takes 0 (last.Arguments c)) (i + 1) ws) (argument_of places c i w) (settings places c (i + 1) ws) (settings-of places at c (i + 1) ws (omega (arith, some)))))
+
+-- a call with as many operands as it takes
+call-of : (places : List ℕ → Option Place) (at : ℕ) (c : CallWord) (ws : List (List ℕ)) → takes_arguments c (length ws) ≡ true → IsOf (call_size c) (operands_why places at (takes 0 (last.Arguments c)) 1 ws) (call_bytes places c ws)
+unfolding call_bytes
+call-of places at c ws h =
+    let few = few-operands c (length ws) h in
+    of-bytes (4 * length ws) (call_size c) (operands_why places at (takes 0 (last.Arguments c)) 1 ws) (settings places c 1 ws) (λ bs. bs ++ call_rest c (length ws)) (settings-of places at c 1 ws (omega arith))
+    (λ bs e. let behind = rest-length c (length ws) in length-append bs (call_rest c (length ws)) ∙ omega (arith, e, few, behind))
+
 -- zeros, by the test of their number
 zeros-by : (b : Bool) (n : ℕ) → IsOf (if b then n else 0) (or_why (result_err (if b then Ok n else Err OutOfRange)) None) (((if b then Ok n else Err OutOfRange) >>= λ v. Ok (v, [])) >>= λ (m : ℕ × List (List ℕ)). Ok (replicate m.0 0))
 zeros-by true n = (refl, length-replicate n 0)
@@ -153,8 +188,9 @@ text-of (Some bytes) = (refl, refl)
 -- an instruction or directive with as many operands as it takes
 form-of : (places : List ℕ → Option Place) (at : ℕ) (text : Option (List ℕ)) (form : Form) (ws : List (List ℕ)) → takes_operands form (length ws) ≡ true
     → IsOf (form_size at text (Some form) ws) (given_why places at text (takes_of form) ws) (form_bytes places at text form ws)
-unfolding value number_operand multiple operands_why operand_why
+unfolding value name_operand number_operand multiple operands_why operand_why
 form-of places at text (Instruction op) ws h = instruction-of places at text op ws h
+form-of places at text (Calling c) ws h = call-of places at c ws h
 form-of places at text Word [] h = absurd (cc)
 form-of places at text Word (w ∷ []) h = of-operand 4 None (operand_value places 4294967295 w) [] _ (λ n. (refl, refl))
 form-of places at text Word (w ∷ x ∷ ws) h = absurd (grind (arith, nat_tests))
@@ -166,6 +202,10 @@ form-of places at text Align [] h = absurd (cc)
 form-of places at text Align (w ∷ []) h = padding-of at (literal_value w)
 form-of places at text Align (w ∷ x ∷ ws) h = absurd (grind (arith, nat_tests))
 form-of places at text Ascii ws h = text-of (text_operand text ws)
+form-of places at text Equ [] h = absurd (cc)
+form-of places at text Equ (a ∷ []) h = absurd (cc)
+form-of places at text Equ (a ∷ b ∷ []) h = of-operand 0 _ (wanted_name a) (b ∷ []) _ (λ n. of-operand 0 None (wanted_number 4294967295 (literal_value b)) [] _ (λ m. (refl, refl)))
+form-of places at text Equ (a ∷ b ∷ x ∷ ws) h = absurd (grind (arith, nat_tests))
 
 -- as many operands are due as it takes
 shape-due : (s : Shape) (n : ℕ) → is_due (shape_takes s).registers (shape_takes s).last n ≡ (n == operand_count s)
@@ -179,11 +219,13 @@ shape-due Call n = refl
 
 due-as-taken : (form : Form) (n : ℕ) → is_due (takes_of form).registers (takes_of form).last n ≡ takes_operands form n
 due-as-taken (Instruction op) n = shape-due (shape_of op) n
+due-as-taken (Calling c) n = refl
 due-as-taken Word n = refl
 due-as-taken Byte n = refl
 due-as-taken Zero n = refl
 due-as-taken Align n = refl
 due-as-taken Ascii n = refl
+due-as-taken Equ n = refl
 
 -- by the test of how many operands there are
 taken-by : (places : List ℕ → Option Place) (at : ℕ) (text : Option (List ℕ)) (form : Form) (ws : List (List ℕ)) (b : Bool) → takes_operands form (length ws) ≡ b
@@ -212,11 +254,16 @@ unfolding statement_why statement_bytes takes_named
 statement-of places at twice text [] = nothing-of twice
 statement-of places at twice text (w ∷ ws) = named-of places at twice text (form_of w) ws
 
+-- where .equ stands behind a label
+misplaced-by : (size : ℕ) (b : Bool) (o : Option Why) (r : Result (List ℕ) Why) → IsOf size o r → IsOf size (if b then Some UnknownWord else o) (if b then Err UnknownWord else r)
+misplaced-by size true o r h = refl
+misplaced-by size false o r h = h
+
 line-of : (places : List ℕ → Option Place) (number at : ℕ) (line : List ℕ) → IsOf (line_size at line) (words_why places number at (text_in (without_comment line)) (source_words (without_comment line))) (line_bytes places number at line)
 unfolding line_bytes line_size
 line-of places number at line =
     let ws = source_words (without_comment line) in
-    statement-of places at (is_twice places number (label_of_words ws)) (text_in (without_comment line)) (behind_label ws)
+    misplaced-by (line_size at line) (is_misplaced ws) _ _ (statement-of places at (is_twice places number (label_of_words ws)) (text_in (without_comment line)) (behind_label ws))
 
 -- an image of so many bytes, no more than there may be, where there is no reason, and else the reason
 abbrev IsImage : ℕ → Option Why → Result (List ℕ) Why → Type 0

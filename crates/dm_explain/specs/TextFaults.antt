@@ -5,10 +5,11 @@ use Rattle.dm_reading.specs.Words.{source_words}
 use Rattle.dm_asm.specs.declared.labels.Place.{Place}
 use Rattle.dm_asm.specs.declared.refusals.Why.{Why}
 use Rattle.dm_asm.specs.declared.refusals.Why.TheVariants.{UnknownWord, BadRegister, BadNumber, LabelTwice, OperandCount, TooLong}
+use Rattle.dm_asm.specs.Calls.{argument_of, takes_arguments}
 use Rattle.dm_asm.specs.Lines.{without_comment}
 use Rattle.dm_asm.specs.Numbers.{literal_value, register_of}
-use Rattle.dm_asm.specs.Operands.{call_value, distance_of, operand_value, wanted_multiple, wanted_number}
-use Rattle.dm_asm.specs.Places.{behind_label, label_of_words, line_size}
+use Rattle.dm_asm.specs.Operands.{call_value, distance_of, operand_value, wanted_multiple, wanted_name, wanted_number}
+use Rattle.dm_asm.specs.Places.{behind_label, is_misplaced, label_of_words, line_size}
 use Rattle.dm_asm.specs.Statements.{is_twice}
 use Rattle.dm_asm.specs.Texts.{text_in, text_operand}
 use Rattle.dm_explain.specs.declared.source.Last.{Last}
@@ -21,20 +22,26 @@ abbrev pub or_why : Option Why → Option Why → Option Why
 or_why None other = other
 or_why (Some why) other = Some why
 
--- why a word is refused behind the registers of an instruction or directive at an address
-abbrev pub last_why : (List ℕ → Option Place) → ℕ → Last → List ℕ → Option Why
-last_why places at last.Nothing w = None
-last_why places at (last.Number most) w = result_err (wanted_number most (literal_value w))
-last_why places at (last.Value most) w = result_err (operand_value places most w)
-last_why places at last.Label w = result_err (distance_of places at w)
-last_why places at last.Multiple w = result_err (wanted_multiple (literal_value w))
-last_why places at last.Text w = None
-last_why places at last.Call w = result_err (call_value w)
-last_why places at last.Bytes w = result_err (wanted_number 255 (literal_value w))
+-- why a word of .equ is refused at a place: a label, then a number
+abbrev pub given_label_why : ℕ → List ℕ → Option Why
+given_label_why i w = if i == 1 then result_err (wanted_name w) else result_err (wanted_number 4294967295 (literal_value w))
+
+-- why a word at a place is refused behind the registers of an instruction or directive at an address
+abbrev pub last_why : (List ℕ → Option Place) → ℕ → Last → ℕ → List ℕ → Option Why
+last_why places at last.Nothing i w = None
+last_why places at (last.Number most) i w = result_err (wanted_number most (literal_value w))
+last_why places at (last.Value most) i w = result_err (operand_value places most w)
+last_why places at last.Label i w = result_err (distance_of places at w)
+last_why places at last.Multiple i w = result_err (wanted_multiple (literal_value w))
+last_why places at last.Text i w = None
+last_why places at last.Call i w = result_err (call_value w)
+last_why places at last.Bytes i w = result_err (wanted_number 255 (literal_value w))
+last_why places at (last.Arguments c) i w = result_err (argument_of places c i w)
+last_why places at last.GivenLabel i w = given_label_why i w
 
 -- why the operand at a place is
 unfoldable pub operand_why : (List ℕ → Option Place) → ℕ → Takes → ℕ → List ℕ → Option Why
-operand_why places at t i w = if nat_le i t.registers then result_err (ok_or (register_of w) BadRegister) else last_why places at t.last w
+operand_why places at t i w = if nat_le i t.registers then result_err (ok_or (register_of w) BadRegister) else last_why places at t.last i w
 
 -- and the first of the operands from a place on that is
 unfoldable pub operands_why : (List ℕ → Option Place) → ℕ → Takes → ℕ → List (List ℕ) → Option Why
@@ -51,6 +58,8 @@ is_due n last.Label there = there == n + 1
 is_due n last.Call there = there == n + 1
 is_due n last.Multiple there = there == n + 1
 is_due n last.Text there = nat_lt 0 there
+is_due n (last.Arguments c) there = takes_arguments c there
+is_due n last.GivenLabel there = there == n + 2
 
 -- a text stands behind the registers
 abbrev pub is_text : Last → Bool
@@ -61,6 +70,8 @@ is_text last.Label = false
 is_text last.Call = false
 is_text last.Multiple = false
 is_text last.Bytes = false
+is_text (last.Arguments c) = false
+is_text last.GivenLabel = false
 is_text last.Text = true
 
 -- why a text is refused as operand
@@ -87,7 +98,7 @@ statement_why places at twice text (w ∷ ws) = named_why places at twice text (
 
 -- why the words of a line are, by its number and address
 abbrev pub words_why : (List ℕ → Option Place) → ℕ → ℕ → Option (List ℕ) → List (List ℕ) → Option Why
-words_why places number at text ws = statement_why places at (is_twice places number (label_of_words ws)) text (behind_label ws)
+words_why places number at text ws = if is_misplaced ws then Some UnknownWord else statement_why places at (is_twice places number (label_of_words ws)) text (behind_label ws)
 
 -- the image has more bytes than it may have with these, and hadn't before
 abbrev pub long_why : ℕ → ℕ → Option Why

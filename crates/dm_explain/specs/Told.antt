@@ -1,5 +1,5 @@
 -- What is said of a boot file that breaks a rule.
-use Rattle.std.specs.Prelude.{ℕ, ◌+◌, nat_lt, Bool, if◌then◌else◌, codes, List, [], ◌∷◌, ◌++◌, length, Option, None, Some, option_map, unwrap_or, Result, Ok, Err}
+use Rattle.std.specs.Prelude.{ℕ, ◌+◌, ◌==◌, nat_lt, Bool, if◌then◌else◌, codes, List, [], ◌∷◌, ◌++◌, length, Option, None, Some, option_map, unwrap_or, Result, Ok, Err}
 use Rattle.std.specs.List.{concat}
 use Rattle.std.specs.Fmt.{decimal}
 use Rattle.std.specs.Option.{is_some, option_and_then}
@@ -34,7 +34,7 @@ use Rattle.dm_explain.specs.declared.told.families.Family.{Family}
 use Rattle.dm_explain.specs.declared.told.families.Family.TheVariants as family
 use Rattle.dm_explain.specs.declared.source.Last.{Last}
 use Rattle.dm_explain.specs.declared.source.Last.TheVariants as last
-use Rattle.dm_explain.specs.BadSources.{last_of, refused_told, source_of}
+use Rattle.dm_explain.specs.BadSources.{BadWord, bad_word_in, last_of, refused_told, source_of}
 use Rattle.dm_explain.specs.Faults.{integer_at, key_fault, number_fault}
 use Rattle.dm_explain.specs.LineAt.{line_at}
 use Rattle.dm_explain.specs.Parts.{integer_text, quoted}
@@ -115,28 +115,37 @@ abbrev pub process_name_words : List ℕ → List ℕ
 process_name_words name = if is_boot_name name then (if is_server_name name then codes " is a server's name" else codes " is an earlier process's name") else no_name
 
 -- a line of an image's text is refused
-abbrev pub image_line_told : Data → ℕ → Why → List ℕ → List ℕ
-image_line_told t number why line = concat (codes "image " ∷ quoted (name_at t) ∷ codes ", line " ∷ decimal number ∷ codes ": " ∷ []) ++ refused_told why (source_of line) line
+abbrev pub image_line_told : Data → (List ℕ → Option Place) → ℕ → Why → List ℕ → List ℕ
+image_line_told t places number why line = concat (codes "image " ∷ quoted (name_at t) ∷ codes ", line " ∷ decimal number ∷ codes ": " ∷ []) ++ refused_told places why (source_of line) line
 
 abbrev pub text_told : Data → List ℕ → Result (List ℕ) (ℕ × Why) → List ℕ
 text_told t text (Ok bytes) = []
 text_told t text (Err refused) =
-    image_line_told t refused.0 refused.1 (line_at refused.0 (source_lines text))
+    image_line_told t (places_of text) refused.0 refused.1 (line_at refused.0 (source_lines text))
 
 -- how a rule is named
 abbrev pub rule_title : BootRule → List ℕ
 rule_title rule = concat (codes "rule " ∷ decimal (rule_number rule) ∷ codes ": " ∷ [])
 
+-- what a number is, or the label of .equ
+abbrev pub given_label_note : Option BadWord → List ℕ
+given_label_note None = []
+given_label_note (Some b) =
+    if b.place == 1 then codes "    a label has 1 to 16 of a to z, 0 to 9 and _, the first no digit, and is no register\n"
+    else codes "    a number has digits alone, or 0x and hexadecimal digits, or is a character, as 'a'\n"
+
 -- what a number is, or a text, behind a line in which none stands where one must
-abbrev pub literal_note : Last → List ℕ
-literal_note last.Label = []
-literal_note last.Nothing = []
-literal_note last.Text = codes "    a text has printed bytes alone, without quotation marks and semicolons, and nothing stands behind it\n"
-literal_note last.Multiple = codes "    a number has digits alone, or 0x and hexadecimal digits\n"
-literal_note last.Call = codes "    a number has digits alone, or 0x and hexadecimal digits; a call is EXIT OUT MAKE COPY DROP SEND RECEIVE or MOVE\n"
-literal_note (last.Number most) = codes "    a number has digits alone, or 0x and hexadecimal digits\n"
-literal_note (last.Value most) = codes "    a number has digits alone, or 0x and hexadecimal digits\n"
-literal_note last.Bytes = codes "    a number has digits alone, or 0x and hexadecimal digits\n"
+abbrev pub literal_note : Last → Option BadWord → List ℕ
+literal_note last.Label b = []
+literal_note last.Nothing b = []
+literal_note last.Text b = codes "    a text has printed bytes alone, without quotation marks and semicolons, and nothing stands behind it\n"
+literal_note last.Multiple b = codes "    a number has digits alone, or 0x and hexadecimal digits, or is a character, as 'a'\n"
+literal_note last.Call b = codes "    a number has digits alone, or 0x and hexadecimal digits, or is a character, as 'a'; a call is EXIT OUT MAKE COPY DROP SEND RECEIVE or MOVE\n"
+literal_note (last.Number most) b = codes "    a number has digits alone, or 0x and hexadecimal digits, or is a character, as 'a'\n"
+literal_note (last.Value most) b = codes "    a number has digits alone, or 0x and hexadecimal digits, or is a character, as 'a'\n"
+literal_note (last.Arguments c) b = codes "    a number has digits alone, or 0x and hexadecimal digits, or is a character, as 'a'\n"
+literal_note last.Bytes b = codes "    a number has digits alone, or 0x and hexadecimal digits, or is a character, as 'a'\n"
+literal_note last.GivenLabel b = given_label_note b
 
 -- on which line a label stands first, behind a line that has it again
 abbrev pub label_note : Option Place → List ℕ
@@ -145,7 +154,7 @@ label_note (Some p) = concat (codes "    the label stands on line " ∷ decimal 
 
 -- what more there is to say of why a line is refused
 abbrev pub note_told : (List ℕ → Option Place) → Why → List ℕ → List ℕ
-note_told places BadNumber line = literal_note (last_of (source_of line))
+note_told places BadNumber line = literal_note (last_of (source_of line)) (bad_word_in places (source_of line))
 note_told places LabelTwice line = label_note (option_and_then places (label_of_words (source_words (without_comment line))))
 note_told places UnknownWord line = []
 note_told places BadRegister line = []
@@ -160,11 +169,11 @@ place_told None number = []
 place_told (Some before) number = concat (codes "    line " ∷ decimal (before + number) ∷ codes " of the file\n" ∷ [])
 
 -- a line that is refused; the first was said before
-abbrev pub again_told : Data → ℕ → ℕ → Why → List ℕ → List ℕ
-again_told t first number why line = if nat_lt first number then rule_title ImageText ++ image_line_told t number why line ++ codes "\n" else []
+abbrev pub again_told : Data → ℕ → (List ℕ → Option Place) → ℕ → Why → List ℕ → List ℕ
+again_told t first places number why line = if nat_lt first number then rule_title ImageText ++ image_line_told t places number why line ++ codes "\n" else []
 
 unfoldable pub refusal_told : Data → Option ℕ → ℕ → (List ℕ → Option Place) → ℕ → Why → List ℕ → List ℕ
-refusal_told t before first places number why line = again_told t first number why line ++ note_told places why line ++ place_told before number
+refusal_told t before first places number why line = again_told t first places number why line ++ note_told places why line ++ place_told before number
 
 abbrev pub line_fault_told : Data → Option ℕ → ℕ → (List ℕ → Option Place) → ℕ → List ℕ → Option Why → List ℕ
 line_fault_told t before first places number line None = []

@@ -1,9 +1,12 @@
 //! Which operand of a line of an image's text is refused.
-ghost use Rattle.std.specs.Prelude.{◌≡◌, ◌<◌, length, option_copied, option_map};
+ghost use Rattle.std.specs.Prelude.{◌≡◌, ◌<◌, IfSome, length, option_copied, option_map};
 ghost use Rattle.dm_reading.specs.Words.{source_words};
-ghost use Rattle.dm_explain.specs.BadSources.{bad_word, bad_word_of, is_fine, is_fine_last, is_no_label, no_label, seen, shape_takes, source_behind, source_of, takes, takes_named, takes_of};
+ghost use Rattle.dm_asm.specs.Labels.{place_in};
+ghost use Rattle.dm_explain.specs.BadSources.{bad_word, bad_word_in, bad_word_of, is_fine, is_fine_last, is_no_label, no_label, seen, shape_takes, source_behind, source_of, takes, takes_named, takes_of};
 
+use dm_asm::calls::{CallWord, argument_of};
 use dm_asm::forms::{Form, Shape};
+use dm_asm::labels::Labels;
 use dm_asm::lines::uncommented;
 use dm_asm::numbers::{is_label, register};
 use dm_asm::operands::number_within;
@@ -27,6 +30,10 @@ pub enum Last {
     Text,
     /// One or more numbers, each of a byte.
     Bytes,
+    /// The operands of a call.
+    Arguments(CallWord),
+    /// A label, and the number that it is given.
+    GivenLabel,
 }
 
 /// What an instruction or directive takes: so many registers, and what stands behind them.
@@ -78,11 +85,13 @@ fn takes_of(form: Form) -> Takes
 {
     match form {
         Form::Instruction(op) => shape_takes(Shape::of(op)),
+        Form::Calling(call) => taking(0, Last::Arguments(call)),
         Form::Word => taking(0, Last::Value(u32::MAX)),
         Form::Byte => taking(0, Last::Bytes),
         Form::Zero => taking(0, Last::Number(65_536)),
         Form::Align => taking(0, Last::Multiple),
         Form::Ascii => taking(0, Last::Text),
+        Form::Equ => taking(0, Last::GivenLabel),
     }
 }
 
@@ -105,7 +114,8 @@ fn is_no_label(word: &[u8]) -> bool
 /// The first word of a line, where it ends as a label does and is none.
 #[tactic(auto, unfolding(crate::specs::BadSources::no_label))]
 pub fn no_label(line: &[u8]) -> Option<&[u8]>
-    ensures { option_copied result ≡ no_label line.now }
+    ensures value { option_copied result ≡ no_label line.now }
+    ensures some { IfSome result (λ word. 0 < length word.now) }
 {
     match next_word(uncommented(line), Gap::Separators) {
         None => None,
@@ -140,41 +150,59 @@ pub fn statement_of(line: &[u8]) -> Option<Statement<'_>>
     }
 }
 
-/// Whether a word behind the registers can't be the one that is refused.
-fn is_fine_last(last: Last, word: &[u8]) -> bool
-    ensures { result ≡ is_fine_last last word.now }
+/// Whether a word at a place behind the registers can't be the one that is refused.
+fn is_fine_last(labels: &Labels, last: Last, place: u64, word: &[u8]) -> bool
+    ensures { result ≡ is_fine_last (place_in labels.now) last place word.now }
 {
     match last {
         Last::Bytes => number_within(word, 255).is_ok(),
-        _ => false,
+        Last::Arguments(call) => argument_of(labels, call, place, word).is_ok(),
+        Last::GivenLabel => place == 1 && is_label(word),
+        Last::Nothing
+        | Last::Number(_)
+        | Last::Value(_)
+        | Last::Label
+        | Last::Call
+        | Last::Multiple
+        | Last::Text => false,
     }
 }
 
 /// Whether the operand at a place isn't the one that is refused.
 #[tactic(auto, unfolding(crate::specs::BadSources::is_fine))]
-fn is_fine(takes: Takes, place: u64, word: &[u8]) -> bool
-    ensures { result ≡ is_fine takes place word.now }
+fn is_fine(labels: &Labels, takes: Takes, place: u64, word: &[u8]) -> bool
+    ensures { result ≡ is_fine (place_in labels.now) takes place word.now }
 {
     if place <= u64::from(takes.registers) {
         register(word).is_some()
     } else {
-        is_fine_last(takes.last, word)
+        is_fine_last(labels, takes.last, place, word)
     }
 }
 
 /// The operand that is refused.
 #[tactic(auto, using(crate::proofs::BadWords::bad_word_lemmas))]
-pub fn bad_word(takes: Takes, operands: &[u8]) -> Option<Wrong<'_>>
-    ensures { option_map bad_word_of result ≡ bad_word takes 1 (source_words operands.now) }
+fn bad_word<'a>(labels: &Labels, takes: Takes, operands: &'a [u8]) -> Option<Wrong<'a>>
+    ensures { option_map bad_word_of result ≡ bad_word (place_in labels.now) takes 1 (source_words operands.now) }
 {
     let mut rest = operands;
     let mut place = 1;
     while let Some((word, others)) = next_word(rest, Gap::Separators) {
-        if !is_fine(takes, place, word) {
+        if !is_fine(labels, takes, place, word) {
             return Some(Wrong { place, word });
         }
         place += 1;
         rest = others;
     }
     None
+}
+
+/// The same of a line, where it has an instruction or directive.
+pub fn bad_word_in<'a>(labels: &Labels, statement: Option<Statement<'a>>) -> Option<Wrong<'a>>
+    ensures { option_map bad_word_of result ≡ bad_word_in (place_in labels.now) (option_map seen statement.entry) }
+{
+    match statement {
+        None => None,
+        Some(statement) => bad_word(labels, statement.takes, statement.operands),
+    }
 }

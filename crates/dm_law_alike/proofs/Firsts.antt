@@ -58,13 +58,13 @@ own_before c e s t w p a (Label.NoSpace id x y) h sound is own = absurd own
 own_before c e s t w p a (Label.Answered id o) h sound is own = absurd own
 
 -- one act, and a run in which nothing is its own
-record OnePast (t u : OneKernel) (p : Pid) (a : Label) (ls : List Label) : Type 0 where
-  end : OneKernel
-  run : replay t ls ≡ Some end
-  acting : kernel.step u a ≡ Some end
-  none : NoneOwn t p ls
+pub record OnePast (t u : OneKernel) (p : Pid) (a : Label) (ls : List Label) : Type 0 where
+  pub end : OneKernel
+  pub run : replay t ls ≡ Some end
+  pub acting : kernel.step u a ≡ Some end
+  pub none : NoneOwn t p ls
 
-one_past : (ls : List Label) (c e : MsgId → ℕ) (s t u : OneKernel) (p : Pid) (a : Label) → Sound c e s → IsAct p a → kernel.step s a ≡ Some t → NoneOwn s p ls → replay s ls ≡ Some u → OnePast t u p a ls
+pub one_past : (ls : List Label) (c e : MsgId → ℕ) (s t u : OneKernel) (p : Pid) (a : Label) → Sound c e s → IsAct p a → kernel.step s a ≡ Some t → NoneOwn s p ls → replay s ls ≡ Some u → OnePast t u p a ls
 one_past [] c e s t u p a sound act is none leads = record { end = t; run = refl; acting = ap (λ v. kernel.step v a) (sym (some_is s u leads)) ∙ is; none = tt }
 one_past (l ∷ ls) c e s t u p a sound act is none leads =
     let (w, first, rest) = bind-is (kernel.step s l) (λ (v : OneKernel). replay v ls) u leads in
@@ -78,7 +78,7 @@ one_past (l ∷ ls) c e s t u p a sound act is none leads =
       none = (λ own. none.0 (own_before c e s t w p a l (act_is s t p a act is) sound first own), λ v f. subst (λ z. NoneOwn z p ls) (some_is d.end v (sym d.first ∙ f)) more.none);
     }
 
-go_first : (acts ls : List Label) (c e : MsgId → ℕ) (s t u : OneKernel) (p : Pid) → Sound c e s → AreActs p acts → replay s acts ≡ Some t → NoneOwn s p ls → replay s ls ≡ Some u → BothWays s t u p acts ls
+pub go_first : (acts ls : List Label) (c e : MsgId → ℕ) (s t u : OneKernel) (p : Pid) → Sound c e s → AreActs p acts → replay s acts ≡ Some t → NoneOwn s p ls → replay s ls ≡ Some u → BothWays s t u p acts ls
 go_first [] ls c e s t u p sound acts is none leads =
     let same : s ≡ t = some_is s t is in
     record { end = u; run = ap (λ v. replay v ls) (sym same) ∙ leads; acting = refl; none = subst (λ v. NoneOwn v p ls) same none }

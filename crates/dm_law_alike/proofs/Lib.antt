@@ -12,3 +12,7 @@ pub mod Sparing
 pub mod Alone
 pub mod Acting
 pub mod Firsts
+pub mod Services
+pub mod Closing
+pub mod Grouped
+pub mod Never

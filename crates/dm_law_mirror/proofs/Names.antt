@@ -112,7 +112,7 @@ pub use Rattle.dm_kernel.proofs.Fitting.{managed_fits, user_fits}
 pub use Rattle.dm_kernel.proofs.LawfulRows.{of_known}
 pub use Rattle.dm_kernel.proofs.LawfulStart.{opened_lawful, opened_may}
 pub use Rattle.dm_kernel.proofs.LawfulTurns.{before_lawful}
-pub use Rattle.dm_kernel.proofs.Making.{image_fits}
+pub use Rattle.dm_onekernel.proofs.Making.{image_fits}
 pub use Rattle.dm_kernel.proofs.Names.{Block, BootMachine, Chunk, FitsEnded, FitsHere, FitsKernel, FitsKnown, FitsManager, FrontMay, HasChunk, HasTaken, IfSome, IsAwaited, IsForManager}
 pub use Rattle.dm_kernel.proofs.Names.{IsLawfulProcess, IsLawfulStatus, IsServer, IsSuch, IsWithin, MayHandle, MayRestart, MayTurn, Nothing, Result, Taken, Wanted, all_sent_back, all_sent_on, ask_of, blocks_at, blocks_of_image, expected}
 pub use Rattle.dm_kernel.proofs.Names.{free_blocks, free_slots, freezes, freezing, frozen, image_is_valid, is_on, length-drop, links_are_valid, next_pid, opened, own, process_is_valid, process_named, processes_are_valid, pull}

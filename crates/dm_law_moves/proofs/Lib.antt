@@ -26,6 +26,8 @@ pub mod Routed
 pub mod ProtocolMoves
 pub mod LifeLines
 pub mod LetterLines
+pub mod Fair
+pub mod FairWorked
 pub mod ServerLines
 pub mod Preds
 pub mod Settles

@@ -20,6 +20,7 @@ pub mod Protocol
 pub mod Stales
 pub mod LifeLines
 pub mod LetterLines
+pub mod Fair
 pub mod ServerLines
 pub mod Predecessors
 pub mod Settles

@@ -6,6 +6,7 @@ ghost use Rattle.dm_law_moves.specs.Counts.{CountsKept, CountsStay};
 ghost use Rattle.dm_law_moves.specs.Ends.{EndsAlways};
 ghost use Rattle.dm_law_moves.specs.Lists.{ListsAlways, ListsForTheirs};
 ghost use Rattle.dm_law_moves.specs.Numbers.{NumbersAlways};
+ghost use Rattle.dm_law_moves.specs.Fair.{NobodyStarves};
 ghost use Rattle.dm_law_moves.specs.LetterLines.{LettersStandInLines};
 ghost use Rattle.dm_law_moves.specs.LifeLines.{LivesAreSaid};
 ghost use Rattle.dm_law_moves.specs.Forwards.{ForwardsTell, RequestsTell};
@@ -277,4 +278,10 @@ pub fn answers_are_so()
 /// lacks room or is called off, are said on the machine that the request named which its last step 1 followed, or the directive.
 pub fn moves_as_named()
     ensures { MovesAsNamed }
+{}
+
+/// From wherever the rule has come: while a process stands in the ring of a machine and isn't served, fewer turns of that machine come with
+/// an empty inbox at which it could be served than processes stand in the ring there.
+pub fn nobody_starves()
+    ensures { NobodyStarves }
 {}

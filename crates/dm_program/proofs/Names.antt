@@ -69,14 +69,15 @@ pub use Rattle.dm_cmd_check.proofs.CheckDecided.{DecidesTraces}
 pub use Rattle.dm_cmd_check.proofs.CheckKept.{CarriesTraces, check_kept}
 pub use Rattle.dm_cmd_check.proofs.JudgeKept.{judge_kept}
 pub use Rattle.dm_cmd_check.proofs.LabelsKept.{labels_kept}
-pub use Rattle.dm_cmd_check.proofs.Names.{Around, Bool, Boot, Done, Files, Good, HasLabels, HasTrace, Input, IsValid, IsWant, Kept, List, NoMemory, None, Option, Outside, ReadFault, RoseOrFull, Some, Status, TheNoMemory, Usage, World, Worn}
-pub use Rattle.dm_cmd_check.proofs.Names.{WriteFault, ap, appended, false, good_verdict, inl, inr, length, nat_lt, refl, shelf_around, subst, sym, traced_by_world, true, unwritten, ℕ, ◌++◌, ◌∙◌, ◌≡◌, ◌⊎◌}
+pub use Rattle.dm_cmd_check.proofs.Names.{Around, Bool, Boot, Done, Files, GivesGood, GivesLabels, Good, HasLabels, HasTrace, Input, IsValid, IsWant, Kept, LabelsAreDecided, List, NoMemory, None, Option, Outside, ReadFault, RoseOrFull}
+pub use Rattle.dm_cmd_check.proofs.Names.{Some, Status, TheNoMemory, Usage, World, Worn, WriteFault, ap, appended, false, good_verdict, inl, inr, length, nat_lt, refl, shelf_around, subst, sym, traced_by_world, true, unwritten, ℕ, ◌++◌}
+pub use Rattle.dm_cmd_check.proofs.Names.{◌∙◌, ◌≡◌, ◌⊎◌}
+pub use Rattle.dm_cmd_check.specs.Promises.{Accepts}
 pub use Rattle.dm_cmd_explore.proofs.ExploreKept.{DecidesAnswers, explore_kept}
 pub use Rattle.dm_cmd_explore.proofs.Exploring.{asked_for}
 pub use Rattle.dm_cmd_explore.proofs.Names.{Answer, Answers, Exploration, ExploreIsWithin, IsCutShort, SaysBoot, answered_by_world, are_for, bounds_for, question_for, sink_around}
 pub use Rattle.dm_cmd_explain.proofs.ExplainKept.{explain_kept}
 pub use Rattle.dm_program.specs.Commands.{of_world, promise_of, promised}
-pub use Rattle.dm_program.specs.Decided.{Accepts, GivesGood, GivesLabels, LabelsAreDecided}
 pub use Rattle.dm_program.specs.Labels.{KeepsLabels, RunLabelsCheck, SaysLabelsAre}
 pub use Rattle.dm_program.specs.Laws.{DrillsCheck, DrillsMayStart, IsGoodDrill, IsGoodWornDrill, IsKept, RunsCheck, SaysItIs, TracesAreFor, WornRunsCheck}
 pub use Rattle.dm_program.specs.OwnLaws.{OwnDrillsAreFor, OwnDrillsCheck, SchedulesAreTaken}

@@ -33,10 +33,10 @@ pub(crate) fn do_request<F: Shelf, K: Sink>(
 ) -> Status
     requires law { RunsGo }
     requires within { IsInRange request }
-    ensures meets { (promise_of of_world (request_said request)).meets
+    ensures meets { (promise_of of_world (request_said request.entry)).meets
         (around (shelf_around F.asked F.told F.faults F.last_failed shelf.old shelf.new)
         (sink_around K.told K.faults K.last_failed out.old out.new)) world.new result }
-    ensures said { (promise_of of_world (request_said request)).first (F.told shelf.old) result said.new.items }
+    ensures said { (promise_of of_world (request_said request.entry)).first (F.told shelf.old) result said.new.items }
 {
     *world = None;
     *said = Vec::new(alloc);

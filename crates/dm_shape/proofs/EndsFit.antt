@@ -1,5 +1,5 @@
 -- Each line at the end of a run has the shape of its row.
-use Rattle.dm_shape.proofs.Imports.{◌≡◌, ℕ, zero, suc, ◌<◌, Bool, true, false, List, [], ◌∷◌, length, map, refl, arith, list_all, Link, MsgId, EndLine, end_words, link_words}
+use Rattle.dm_shape.proofs.Imports.{◌≡◌, ℕ, zero, suc, ◌<◌, true, false, List, [], ◌∷◌, length, map, refl, arith, list_all, Link, MsgId, EndLine, end_words, link_words}
 use Rattle.dm_shape.proofs.Imports.{AllFit, EndFits, left_out, link_row, message_word, registers_row, spellings, IsFull, ends_so, fit, is_row, link_sorts, numbers, row_of, is_of}
 use Rattle.dm_line.specs.declared.end_line.Doing.TheVariants as doing
 use Rattle.dm_line.specs.declared.end_line.EndLine.TheVariants as end

@@ -1,5 +1,5 @@
 -- Words of a line, one by one.
-use Rattle.dm_shape.proofs.Imports.{◌≡◌, ℕ, suc, ◌+◌, ◌<◌, Bool, true, false, ◌&&◌, List, [], ◌∷◌, length, drop, drop-cons, get_or, refl, ap, sym, ◌∙◌, arith, Bor, Some, None, list_all, option_map, Option, pieces, Sort, behind, ends_so}
+use Rattle.dm_shape.proofs.Imports.{◌≡◌, ℕ, ◌<◌, Bool, true, false, ◌&&◌, List, [], ◌∷◌, length, drop, drop-cons, refl, ap, ◌∙◌, arith, Bor, Some, None, list_all, option_map, Option, pieces, Sort, behind, ends_so}
 use Rattle.dm_shape.proofs.Imports.{fit, is_of, alone}
 use Rattle.dm_shape.specs.declared.sort.Sort.TheVariants as sort
 use Rattle.dm_shape.proofs.NamesRead.{some_piece}

@@ -6,4 +6,5 @@ pub mod WordsFit
 pub mod LinesFit
 pub mod EndsFit
 pub mod ShapeLaws
+pub mod Beginning
 mod Worked

@@ -1,6 +1,6 @@
 -- Names read piece by piece: what stands behind the first separator has no other one, where it can be read.
-use Rattle.dm_shape.proofs.Imports.{◌≡◌, ℕ, zero, suc, ◌+◌, ◌-◌, ◌*◌, ◌^◌, ◌<◌, ◌≤◌, ◌==◌, nat_le, Bool, true, false, ◌&&◌, ◌||◌, if◌then◌else◌, List, [], ◌∷◌, ◌++◌, length, refl, ap, sym, ◌∙◌, subst, arith, Some, None, Option, option_and_then, nat_tests}
-use Rattle.dm_shape.proofs.Imports.{Pid, pid_of, MsgId, ◌<*>◌, onto_first, pieces, number_after, if_below, is_padded, read_number, read_u8, read_u32, read_pid, pid_in, message_named, message_numbered, id_in, free, free-append, pieces-free}
+use Rattle.dm_shape.proofs.Imports.{◌≡◌, ℕ, ◌+◌, ◌-◌, ◌*◌, ◌^◌, ◌<◌, ◌==◌, nat_le, Bool, true, false, ◌&&◌, ◌||◌, if◌then◌else◌, List, [], ◌∷◌, ◌++◌, length, refl, ap, sym, ◌∙◌, arith, Some, None, Option, option_and_then, nat_tests}
+use Rattle.dm_shape.proofs.Imports.{Pid, pid_of, ◌<*>◌, onto_first, pieces, number_after, if_below, is_padded, read_number, read_u8, read_u32, read_pid, pid_in, message_named, message_numbered, id_in, free, free-append, pieces-free}
 
 -- nothing comes of nothing
 pub of_none : {A B : Type 0} (o : Option (A → B)) (x : Option A) → x ≡ None → (o <*> x) ≡ None

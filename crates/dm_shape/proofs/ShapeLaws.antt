@@ -1,8 +1,8 @@
 -- Printed lines have shapes, and heads are read as what they are.
-use Rattle.dm_shape.proofs.Imports.{◌≡◌, ℕ, Bool, true, false, if◌then◌else◌, List, [], ◌∷◌, ◌++◌, refl, ap, sym, ◌∙◌, subst, Some, None, codes, is_some, list_any, bytes_eq, Option, append_cancel_right, bytes_eq-Decides, Pid, Step, Line}
-use Rattle.dm_shape.proofs.Imports.{EndLine, end_words, LineFits, EndFits, ◌<*>◌, pieces, read_u8, read_u64, read_pid, is, of1, of2, of3, line_words, spaced, spelled_line, text, end_text, end_words_are, line_words-are}
-use Rattle.dm_shape.proofs.Imports.{line_bytes, spelled_bytes, pieces_of_words, read_u8_back, read_u64_back, read_pid_back, AreWords, IsFull, head_in, head_named, head_step, IsLine, LinesHaveShapes, EndsHaveShapes, HeadsHaveShapes}
-use Rattle.dm_shape.proofs.Imports.{HeadsAreRead, has_shape, is_of_shape, is_row, row_of, all_shapes, is_of}
+use Rattle.dm_shape.proofs.Imports.{◌≡◌, ℕ, Bool, true, false, if◌then◌else◌, List, [], ◌∷◌, refl, ap, ◌∙◌, Some, None, codes, is_some, bytes_eq, Option, append_cancel_right, bytes_eq-Decides, Pid, Step}
+use Rattle.dm_shape.proofs.Imports.{end_words, LineFits, ◌<*>◌, pieces, read_u8, read_u64, read_pid, is, of1, of2, of3, line_words, spelled_line, end_words_are, line_words-are}
+use Rattle.dm_shape.proofs.Imports.{line_bytes, spelled_bytes, pieces_of_words, read_u8_back, read_u64_back, read_pid_back, AreWords, head_in, head_named, head_step, IsLine, LinesHaveShapes, EndsHaveShapes, HeadsHaveShapes}
+use Rattle.dm_shape.proofs.Imports.{HeadsAreRead, has_shape, is_of_shape, is_row, row_of, is_of}
 use Rattle.dm_schedule.specs.declared.Step.TheVariants as step
 use Rattle.dm_line.specs.declared.line.Line.TheVariants as line
 use Rattle.dm_shape.specs.declared.shape.Shape.TheVariants as shape
@@ -10,7 +10,6 @@ use Rattle.dm_shape.specs.declared.shape.HeadShape.TheVariants as head_shape
 use Rattle.dm_shape.proofs.EndsFit.{end_has_row}
 use Rattle.dm_shape.proofs.LinesFit.{line_has_row}
 use Rattle.dm_shape.proofs.Listed.{has_row, listed}
-use Rattle.dm_shape.proofs.NamesRead.{some_piece}
 
 -- a text without line feed is its words
 pub bytes_are : (ws : List (List ℕ)) (bytes : List ℕ) → IsLine bytes (spelled_line ws) → bytes ≡ line_bytes ws

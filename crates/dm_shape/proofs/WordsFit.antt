@@ -1,8 +1,8 @@
 -- The words that lines are printed with are of their sorts.
-use Rattle.dm_shape.proofs.Imports.{◌≡◌, ◌≢◌, ℕ, zero, suc, ◌+◌, ◌-◌, ◌*◌, ◌/◌, ◌%◌, ◌^◌, ◌<◌, ◌≤◌, ◌==◌, nat_lt, nat_le, nat_eq, Bool, true, false, not, ◌&&◌, List, [], ◌∷◌, ◌++◌, length, drop, get_or, refl, ap, sym, ◌∙◌, arith, Some}
-use Rattle.dm_shape.proofs.Imports.{codes, is_some, decimal, All, list_all, ends_with, nat_tests, Pid, Kind, MsgId, MessageKind, word_of, Outcome, code_of_outcome, Direction, FromArea, IntoArea, reply_code, why_code, Reply, Why, Load}
+use Rattle.dm_shape.proofs.Imports.{◌≡◌, ◌≢◌, ℕ, suc, ◌-◌, ◌*◌, ◌/◌, ◌%◌, ◌^◌, ◌<◌, ◌≤◌, ◌==◌, nat_lt, nat_le, nat_eq, Bool, true, false, ◌&&◌, List, [], ◌∷◌, length, drop, get_or, refl, ap, ◌∙◌, arith}
+use Rattle.dm_shape.proofs.Imports.{codes, is_some, decimal, All, list_all, ends_with, nat_tests, Pid, Kind, MsgId, MessageKind, word_of, Outcome, code_of_outcome, Direction, FromArea, IntoArea, reply_code, why_code, Reply, Why}
 use Rattle.dm_shape.proofs.Imports.{Stage, Standing, standing_word, direction_word, go_word, hex, hex_digit, kind_word, rights_word, PidFits, IdFits, IsByte, read_number, stage_word, pid_word, id_word, read_u8_back, read_u32_back}
-use Rattle.dm_shape.proofs.Imports.{read_u64_back, read_u128_back, read_pid_back, read_id_back, outcome_small, is_hex_digit, spells, is_block, is_of, choose}
+use Rattle.dm_shape.proofs.Imports.{read_u64_back, read_u128_back, read_pid_back, read_id_back, outcome_small, is_hex_digit, spells, is_of, choose}
 use lib.Pointwise.{pointwise}
 use Rattle.dm_link.specs.declared.Kind.TheVariants as kind_
 use Rattle.dm_message.specs.declared.kind.MessageKind.TheVariants as kind

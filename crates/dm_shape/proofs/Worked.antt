@@ -1,5 +1,6 @@
 -- Texts that are lines, and texts that are none.
-use Rattle.dm_shape.proofs.Imports.{◌≡◌, true, false, refl, Some, None, codes, pieces, read_number, read_pid, read_id, head_step, has_shape, is_of_shape, is_of}
+use Rattle.dm_shape.proofs.Imports.{◌≡◌, [], true, false, refl, Some, None, codes, pieces, read_number, read_pid, read_id, head_step, has_shape, is_of_shape, is_of}
+unfoldable use Rattle.dm_shape.specs.Begins.{fitting_shape, words_that_begin, wrong_word}
 use Rattle.dm_schedule.specs.declared.Step.TheVariants as step
 
 line_1 : has_shape (codes "lacks 0.3 300 0") ≡ true
@@ -309,3 +310,32 @@ head_7 = refl
 head_8 : head_step (codes "final") ≡ None
 unfolding head_step pieces read_number read_pid
 head_8 = refl
+
+begin_1 : wrong_word (codes "out 0.3") ≡ None
+unfolding wrong_word words_that_begin fitting_shape is_of pieces read_number read_pid read_id
+begin_1 = refl
+
+begin_2 : wrong_word (codes "outt 0.3") ≡ Some (codes "outt")
+unfolding wrong_word words_that_begin fitting_shape is_of pieces read_number read_pid read_id
+begin_2 = refl
+
+begin_3 : wrong_word (codes "out buffer") ≡ Some (codes "buffer")
+unfolding wrong_word words_that_begin fitting_shape is_of pieces read_number read_pid read_id
+begin_3 = refl
+
+-- the lines at the end of a run are in no group
+begin_4 : wrong_word (codes "end 100") ≡ Some (codes "100")
+unfolding wrong_word words_that_begin fitting_shape is_of pieces read_number read_pid read_id
+begin_4 = refl
+
+begin_5 : wrong_word (codes "step 6 0.3 1 2") ≡ Some (codes "2")
+unfolding wrong_word words_that_begin fitting_shape is_of pieces read_number read_pid read_id
+begin_5 = refl
+
+begin_6 : wrong_word (codes "step 8 0.3") ≡ None
+unfolding wrong_word words_that_begin fitting_shape is_of pieces read_number read_pid read_id
+begin_6 = refl
+
+begin_7 : wrong_word (codes "idle ") ≡ Some []
+unfolding wrong_word words_that_begin fitting_shape is_of pieces read_number read_pid read_id
+begin_7 = refl

@@ -1,5 +1,5 @@
 //! What holds of the shapes of lines, whoever reads them.
-ghost use Rattle.dm_shape.specs.Laws.{EndsHaveShapes, HeadsAreRead, HeadsHaveShapes, LinesHaveShapes};
+ghost use Rattle.dm_shape.specs.Laws.{EndsHaveShapes, HeadsAreRead, HeadsHaveShapes, LinesHaveShapes, WordsBegin};
 
 /// Each line of a group that is printed has a shape.
 pub fn lines_have_shapes()
@@ -19,4 +19,9 @@ pub fn heads_have_shapes()
 /// The head of a group is read as the directive that it names.
 pub fn heads_are_read()
     ensures { HeadsAreRead }
+{}
+
+/// Words with which a line of a group that is printed begins have no wrong one among them.
+pub fn words_begin()
+    ensures { WordsBegin }
 {}

@@ -4,6 +4,7 @@
 //! no matter here.
 #![tactic(auto)]
 
+mod begins;
 pub mod choice;
 pub mod head;
 pub mod laws;
@@ -12,5 +13,6 @@ mod shape;
 mod sort;
 mod table;
 
+pub use begins::wrong_word;
 pub use shape::{EndShape, GroupShape, HeadShape, KernelShape, Shape, has_shape};
 pub use sort::Sort;

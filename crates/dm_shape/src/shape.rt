@@ -109,7 +109,7 @@ pub enum EndShape {
 }
 
 /// All shapes.
-const SHAPES: [Shape; 65] = [
+pub(crate) const SHAPES: [Shape; 65] = [
     Shape::Head(HeadShape::Turn),
     Shape::Head(HeadShape::Tick),
     Shape::Head(HeadShape::Deliver),

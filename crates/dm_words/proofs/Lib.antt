@@ -4,5 +4,4 @@ pub mod Shapes
 pub mod Given
 pub mod Ranges
 pub mod Usages
-pub mod Texts
 pub mod Places

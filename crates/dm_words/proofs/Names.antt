@@ -57,8 +57,7 @@ pub use Rattle.dm_words.specs.RunWords.{run_command, run_request}
 pub use Rattle.dm_words.specs.Usage.{On, Wrong, at_end, behind_name, command_told, form_word, forms, is_bad_value, names, on, step, value_among, value_here}
 unfoldable pub use Rattle.dm_words.specs.Usage.{bad_value_of, form_named, is_named, usage_pieces, value_of, walk}
 pub use Rattle.dm_words.specs.Words.{AreTaken, Command, HasShape, IsTaken, bare, command_of, commands, demosmp, request_at, request_in, request_of}
-pub use Rattle.dm_words.specs.Written.{is_filled, is_text, written_move, written_name}
-unfoldable pub use Rattle.dm_words.specs.Written.{are_words}
+pub use Rattle.dm_words.specs.Written.{is_text, stuck_name, written_move}
 pub use Rattle.dm_words.specs.declared.argument.CommandForm.{CommandForm}
 pub use Rattle.dm_words.specs.declared.argument.CommandOption.{CommandOption}
 pub use Rattle.dm_words.specs.declared.explore.Exploration.{Exploration}

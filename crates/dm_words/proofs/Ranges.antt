@@ -2,7 +2,7 @@
 use Rattle.dm_words.proofs.Names.{◌≡◌, ◌≤◌, ℕ, Bool, true, false, List, [], ◌∷◌, refl, arith, nat_tests, Some, None, ⊤, nat_le, ◌&&◌, if◌then◌else◌, option_and_then, codes, option_map_or, bytes_eq, Row, first_of, is_empty, subcommand_of}
 use Rattle.dm_words.proofs.Names.{read_u32, read_u8, chart_request, charting, group_in, takes_chart, check_request, checking, count_request, IsWithin, OwnIsWithin, drawn_by, drill_by, drill_request, if_within, lines_asked, machines_asked}
 use Rattle.dm_words.proofs.Names.{own_by, run_by, schedule_of, seed_of, shows_by, trace_of, Shows, explaining, both_files, ExploreIsWithin, acks_of, depth_of, exploration_of, explore_request, exploring, few_of, listed, looking_for, most_in}
-use Rattle.dm_words.proofs.Names.{most_of, with_names, with_numbers, written_move, written_name, Exploration, WrittenMove, WrittenName, Request, Chart, Check, Count, Drill, Explain, Explore, Judge, OwnDrill, Run, Look, CheckLabels}
+use Rattle.dm_words.proofs.Names.{most_of, with_names, with_numbers, written_move, stuck_name, Exploration, WrittenMove, WrittenName, Request, Chart, Check, Count, Drill, Explain, Explore, Judge, OwnDrill, Run, Look, CheckLabels}
 use Rattle.dm_words.proofs.Names.{groups_of, look_request, looking, names_of, run_request, Command, commands, demosmp, request_at, request_in, request_of}
 use Rattle.std.specs.Prelude.{Option}
 use Rattle.clap.specs.Faults.{fault_of}
@@ -157,7 +157,7 @@ explore_fits : (rows : List Row) → Fits (explore_request rows)
 explore_fits rows =
     exploring_fits (first_of (codes "boot") rows) (first_of (codes "line") rows) (exploration_of rows)
     (names_within (with_numbers (depth_of rows) (most_of rows) (few_of (codes "ticks") rows) (few_of (codes "repeats") rows) (acks_of rows))
-    (listed written_name (codes "stuck") rows) (listed written_move (codes "move") rows) (listed written_move (codes "calloff") rows)
+    (listed stuck_name (codes "stuck") rows) (listed written_move (codes "move") rows) (listed written_move (codes "calloff") rows)
     (numbers_within (depth_of rows) (most_of rows) (few_of (codes "ticks") rows) (few_of (codes "repeats") rows) (acks_of rows)
     (named (first_of (codes "depth") rows) read_u8 1 64) (least_most (first_of (codes "most") rows))))
 

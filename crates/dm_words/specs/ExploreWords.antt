@@ -13,7 +13,7 @@ use Rattle.dm_words.specs.declared.explore.WrittenName.{WrittenName}
 use Rattle.dm_words.specs.DrillWords.{flag_of, flag_option, if_within, number_option}
 use Rattle.dm_words.specs.FileWords.{file_option, free_option}
 use Rattle.dm_words.specs.Request.{Request, Explore}
-use Rattle.dm_words.specs.Written.{is_text, written_move, written_name}
+use Rattle.dm_words.specs.Written.{is_text, stuck_name, written_move}
 
 -- the option `--name VALUE`, which may be there more than once
 abbrev pub many_option : List ℕ → Rule
@@ -95,7 +95,7 @@ with_names None stuck moves calls = None
 abbrev pub exploration_of : List Row → Option Exploration
 exploration_of rows =
     with_names (with_numbers (depth_of rows) (most_of rows) (few_of (codes "ticks") rows) (few_of (codes "repeats") rows) (acks_of rows))
-    (listed written_name (codes "stuck") rows) (listed written_move (codes "move") rows) (listed written_move (codes "calloff") rows)
+    (listed stuck_name (codes "stuck") rows) (listed written_move (codes "move") rows) (listed written_move (codes "calloff") rows)
 
 -- whether a process is named
 abbrev pub is_first_named : {X : Type 0} → List (Option X) → Bool

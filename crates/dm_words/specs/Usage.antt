@@ -5,6 +5,7 @@ use Rattle.std.specs.Str.{bytes_eq}
 use Rattle.std.specs.declared.option.Option.{Option}
 use Rattle.std.specs.declared.option.Option.TheVariants.{None, Some}
 use Rattle.dm_text.specs.Reading.{read_u32, read_u8}
+use Rattle.dm_shape.specs.Begins.{wrong_word}
 use Rattle.dm_words.specs.declared.form.Form.{Form}
 use Rattle.dm_words.specs.declared.form.Form.TheVariants as form
 use Rattle.dm_words.specs.declared.option.OptionName.{OptionName}
@@ -16,7 +17,7 @@ use Rattle.dm_words.specs.declared.walk.Outcome.TheVariants as the
 use Rattle.dm_words.specs.ChartWords.{group_in}
 use Rattle.dm_words.specs.DrillWords.{lines_in, machines_in, seed_in}
 use Rattle.dm_words.specs.ExploreWords.{depth_in, most_in}
-use Rattle.dm_words.specs.Written.{is_equals, is_text, written_move, written_name}
+use Rattle.dm_words.specs.Written.{is_equals, is_text, stuck_name, written_move}
 
 -- all commands, and the word of each
 abbrev pub forms : List Form
@@ -125,7 +126,7 @@ range_words option.Machines = codes ": 2 to 16"
 range_words option.WithTrace = []
 range_words option.WithSchedule = []
 range_words option.Depth = codes ": 1 to 64"
-range_words option.Line = codes ": one to eight words with one space between"
+range_words option.Line = codes ": no line of a group has this word there"
 range_words option.Stuck = codes ": a process as in 0.3"
 range_words option.Move = codes ": a process and a machine as in 0.3=1"
 range_words option.CallOff = codes ": a process and a machine as in 0.3=1"
@@ -150,7 +151,7 @@ can_be option.WithTrace v = true
 can_be option.WithSchedule v = true
 can_be option.Depth v = is_some (depth_in v)
 can_be option.Line v = is_text v
-can_be option.Stuck v = is_some (written_name v)
+can_be option.Stuck v = is_some (stuck_name v)
 can_be option.Move v = is_some (written_move v)
 can_be option.CallOff v = is_some (written_move v)
 can_be option.Ticks v = is_some (read_u8 v)
@@ -277,6 +278,10 @@ unfoldable pub bad_value_of : OptionName → List (List ℕ) → Option (List �
 bad_value_of o [] = None
 bad_value_of o (w ∷ ws) = if names o w && is_bad_value o (value_here w ws) then value_here w ws else bad_value_of o ws
 
+abbrev pub or_nothing : Option (List ℕ) → List ℕ
+or_nothing None = []
+or_nothing (Some v) = v
+
 -- what is wrong, in four pieces
 abbrev pub told : List ℕ → List ℕ → List ℕ → List ℕ → List (List ℕ)
 told one two three four = one ∷ two ∷ three ∷ four ∷ []
@@ -330,8 +335,13 @@ is_number option.Most = true
 abbrev pub due_words : OptionName → List ℕ → List ℕ
 due_words o v = if is_number o && has_zero v then codes ": no 0 may stand in front" else range_words o
 
+-- of a text the first word is told with which no line of a group begins any more
+abbrev pub value_told : OptionName → List ℕ → List ℕ
+value_told option.Line v = or_nothing (wrong_word v)
+value_told o v = v
+
 abbrev pub bad_value : OptionName → List ℕ → List (List ℕ)
-bad_value o v = told (option_word o) (codes " ") v (due_words o v)
+bad_value o v = told (option_word o) (codes " ") (value_told o v) (due_words o v)
 
 -- word by word: what is wrong there, or the option that waits for its value behind it
 pub data Step : Type 0 where
@@ -381,10 +391,6 @@ is_bad o ws = is_some (bad_value_of o ws)
 
 unfoldable pub bad : Form → List (List ℕ) → Option OptionName
 bad f ws = find (λ o. is_bad o ws) (options_of f)
-
-abbrev pub or_nothing : Option (List ℕ) → List ℕ
-or_nothing None = []
-or_nothing (Some v) = v
 
 -- options that don't go together
 abbrev pub check_clash : Bool → Bool → List ℕ

@@ -1,24 +1,18 @@
 -- Numbers, processes and texts as the words of `explore` have them.
-use Rattle.std.specs.Prelude.{ℕ, ◌+◌, Bool, ◌==◌, ◌&&◌, nat_le, nat_lt, List, drop, length, take}
-use Rattle.std.specs.List.{list_all, position}
+use Rattle.std.specs.Prelude.{ℕ, ◌+◌, Bool, ◌==◌, nat_lt, is_none, if◌then◌else◌, List, drop, take}
+use Rattle.std.specs.List.{position}
 use Rattle.std.specs.Option.{option_and_then, option_map}
 use Rattle.std.specs.declared.option.Option.{Option}
-use Rattle.dm_reading.specs.Cuts.{pieces}
+use Rattle.std.specs.declared.option.Option.TheVariants.{None, Some}
 use Rattle.dm_link.specs.declared.Pid.{Pid}
 use Rattle.dm_schedule.specs.Numbers.{number_of_word, process_of}
+use Rattle.dm_shape.specs.Begins.{wrong_word}
 use Rattle.dm_words.specs.declared.explore.WrittenMove.{WrittenMove}
 use Rattle.dm_words.specs.declared.explore.WrittenName.{WrittenName}
 
-abbrev pub is_filled : List ℕ → Bool
-is_filled w = nat_lt 0 (length w)
-
--- words, and so many at most
-unfoldable pub are_words : ℕ → List (List ℕ) → Bool
-are_words most ws = list_all is_filled ws && nat_le (length ws) most
-
--- one to eight words, with one blank between
+-- words with which a line of a group may begin, with one blank between
 abbrev pub is_text : List ℕ → Bool
-is_text text = are_words 8 (pieces 32 text)
+is_text text = is_none (wrong_word text)
 
 -- a process as a schedule has it, whatever machines there are
 abbrev pub as_written : Pid → WrittenName
@@ -26,6 +20,13 @@ as_written p = record { home = p.home; num = p.num }
 
 abbrev pub written_name : List ℕ → Option WrittenName
 written_name word = option_map as_written (process_of word)
+
+-- and not a kernel or a server, which never gets stuck
+abbrev pub if_process : WrittenName → Option WrittenName
+if_process p = if nat_lt p.num 3 then None else Some p
+
+abbrev pub stuck_name : List ℕ → Option WrittenName
+stuck_name word = option_and_then if_process (written_name word)
 
 -- an equals sign
 abbrev pub is_equals : ℕ → Bool

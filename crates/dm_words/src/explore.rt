@@ -3,11 +3,11 @@ ghost use Rattle.std.specs.Prelude.{◌≡◌, ◌≤◌, IfSome, None, Some, le
 ghost use Rattle.clap.specs.Words.{found_of, rows_of};
 ghost use Rattle.dm_words.specs.ExploreWords.{ExploreIsWithin, all_read, depth_in, depth_of, exploration_of, explore_request as explore_asked, exploring, few_of, filling, in_places, listed, most_in, most_of, with_names, with_numbers};
 ghost use Rattle.dm_words.specs.Words.{IsInRange, request_said};
-ghost use Rattle.dm_words.specs.Written.{written_move, written_name};
+ghost use Rattle.dm_words.specs.Written.{stuck_name, written_move};
 
 use crate::argument::{CommandForm, CommandOption, is_set, value, values};
 use crate::words::Request;
-use crate::written::{is_text, written_move, written_name};
+use crate::written::{is_text, stuck_name, written_move};
 use clap::ArgMatches;
 use dm_shape::names::{byte, count};
 
@@ -261,7 +261,7 @@ fn few(matches: &ArgMatches<'_>, name: &str) -> Option<u8>
 
 /// The processes that an option names, sixteen at most.
 fn names_of(matches: &ArgMatches<'_>, name: &str) -> Option<[Option<WrittenName>; MOST_NAMES]>
-    ensures { result ≡ listed written_name name.now (rows_of (found_of matches.now)) }
+    ensures { result ≡ listed stuck_name name.now (rows_of (found_of matches.now)) }
 {
     match values(matches, name) {
         Some(words) => names_in(words),
@@ -271,7 +271,7 @@ fn names_of(matches: &ArgMatches<'_>, name: &str) -> Option<[Option<WrittenName>
 
 /// The processes that these words name, sixteen at most.
 fn names_in(words: &[&str]) -> Option<[Option<WrittenName>; MOST_NAMES]>
-    ensures { result ≡ in_places written_name (map (λ w. w.now) words.now) }
+    ensures { result ≡ in_places stuck_name (map (λ w. w.now) words.now) }
 {
     if words.len() <= MOST_NAMES {
         each_name(words)
@@ -283,11 +283,11 @@ fn names_in(words: &[&str]) -> Option<[Option<WrittenName>; MOST_NAMES]>
 /// Each of the processes that these words name.
 fn each_name(words: &[&str]) -> Option<[Option<WrittenName>; MOST_NAMES]>
     requires { length words.now ≤ MOST_NAMES }
-    ensures { result ≡ option_map (filling MOST_NAMES) (all_read written_name (map (λ w. w.now) words.now)) }
+    ensures { result ≡ option_map (filling MOST_NAMES) (all_read stuck_name (map (λ w. w.now) words.now)) }
 {
     let mut found = [None; MOST_NAMES];
     for place in 0..words.len() {
-        found[place] = Some(written_name(words[place].as_bytes())?);
+        found[place] = Some(stuck_name(words[place].as_bytes())?);
     }
     Some(found)
 }

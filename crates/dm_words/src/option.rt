@@ -7,7 +7,7 @@ use crate::chart::group_in;
 use crate::drill::{lines_in, machines_in};
 use crate::explore::{MOST_NAMES, depth_in, most_in};
 use crate::walk::front;
-use crate::written::{is_text, written_move, written_name};
+use crate::written::{is_text, stuck_name, written_move};
 use dm_shape::names::{byte, count};
 
 /// An option of a command.
@@ -149,7 +149,7 @@ impl OptionName {
             OptionName::WithTrace => b"",
             OptionName::WithSchedule => b"",
             OptionName::Depth => b": 1 to 64",
-            OptionName::Line => b": one to eight words with one space between",
+            OptionName::Line => b": no line of a group has this word there",
             OptionName::Stuck => b": a process as in 0.3",
             OptionName::Move => b": a process and a machine as in 0.3=1",
             OptionName::CallOff => b": a process and a machine as in 0.3=1",
@@ -181,7 +181,7 @@ impl OptionName {
             OptionName::WithSchedule => true,
             OptionName::Depth => depth_in(value).is_some(),
             OptionName::Line => is_text(value),
-            OptionName::Stuck => written_name(value).is_some(),
+            OptionName::Stuck => stuck_name(value).is_some(),
             OptionName::Move => written_move(value).is_some(),
             OptionName::CallOff => written_move(value).is_some(),
             OptionName::Ticks => byte(value).is_some(),

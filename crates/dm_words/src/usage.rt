@@ -1,11 +1,12 @@
 //! What was wrong with words that ask for nothing, the form of their command, and where help is. It is asked only once the words
 //! were refused, and takes no memory.
 ghost use Rattle.std.specs.Prelude.{◌≡◌, map, string_bytes};
-ghost use Rattle.dm_words.specs.Usage.{absent, absent_told, bad, bad_told, bad_value, behind_name, check_clash, clash, clash_told, command_lines, command_told, drill_clash, due_words, explain_clash, explore_clash, flags_clash, has_zero, is_bad, pieces_of, pieces_told, told, usage_pieces, wrong_told};
+ghost use Rattle.dm_words.specs.Usage.{absent, absent_told, bad, bad_told, bad_value, behind_name, check_clash, clash, clash_told, command_lines, command_told, drill_clash, due_words, explain_clash, explore_clash, flags_clash, has_zero, is_bad, pieces_of, pieces_told, told, usage_pieces, value_told, wrong_told};
 
 use crate::form::Form;
 use crate::option::OptionName;
 use crate::walk::{bad_value_of, first_word, walk};
+use dm_shape::wrong_word;
 
 /// What is wrong, in four pieces.
 #[derive(Clone, Copy)]
@@ -223,8 +224,18 @@ fn bad_value<'a>(option: OptionName, value: &'a [u8]) -> Fault<'a>
     Fault {
         one: option.word(),
         two: b" ",
-        three: value,
+        three: value_told(option, value),
         four: due,
+    }
+}
+
+/// What is told of such a value: of a text the first word with which no line of a group begins any more.
+fn value_told<'a>(option: OptionName, value: &'a [u8]) -> &'a [u8]
+    ensures { result.now ≡ value_told option value.now }
+{
+    match option {
+        OptionName::Line => wrong_word(value).unwrap_or(b""),
+        _ => value,
     }
 }
 

@@ -2,43 +2,23 @@
 ghost use Rattle.std.specs.Prelude.{◌≡◌, ◌==◌};
 ghost use Rattle.std.specs.List.{position};
 ghost use Rattle.dm_schedule.specs.Numbers.{number_of_word};
-ghost use Rattle.dm_words.specs.Written.{is_filled, is_text, written_move, written_name};
+ghost use Rattle.dm_words.specs.Written.{if_process, is_text, stuck_name, written_move, written_name};
 
 use crate::explore::{WrittenMove, WrittenName};
-use dm_reading::{exact_number, split};
+use dm_reading::exact_number;
+use dm_shape::wrong_word;
 
-/// The most words of a text that is looked for.
-const MOST_WORDS: usize = 8;
+/// The lowest number of a process.
+const FIRST_PROCESS: u64 = 3;
 
 /// The most digits of a number.
 const MOST_DIGITS: usize = 10;
 
-/// Whether a text is one to eight words, with one blank between.
-#[tactic(auto, using(crate::proofs::Texts::text_lemmas))]
+/// Whether a line of a group may begin with the words of a text.
 pub fn is_text(text: &[u8]) -> bool
     ensures { result ≡ is_text text.now }
 {
-    let mut rest = Some(text);
-    let mut left = MOST_WORDS;
-    while let Some(behind) = rest {
-        let (word, others) = split(behind, b' ');
-        if left == 0 {
-            return false;
-        }
-        if !is_filled(word) {
-            return false;
-        }
-        left -= 1;
-        rest = others;
-    }
-    true
-}
-
-/// Whether a word has a letter.
-fn is_filled(word: &[u8]) -> bool
-    ensures { result ≡ is_filled word.now }
-{
-    0 < word.len()
+    wrong_word(text).is_none()
 }
 
 /// The number that a word is: one to ten digits, as in a schedule.
@@ -71,6 +51,24 @@ pub fn written_name(word: &[u8]) -> Option<WrittenName>
             (Some(home), Some(num)) => Some(WrittenName { home, num }),
             _ => None,
         },
+    }
+}
+
+/// The process that a word names, if it may be one: not a kernel, or a server, which never gets stuck.
+pub fn stuck_name(word: &[u8]) -> Option<WrittenName>
+    ensures { result ≡ stuck_name word.now }
+{
+    if_process(written_name(word)?)
+}
+
+/// A process, if it isn't a kernel or a server.
+fn if_process(name: WrittenName) -> Option<WrittenName>
+    ensures { result ≡ if_process name }
+{
+    if name.num < FIRST_PROCESS {
+        None
+    } else {
+        Some(name)
     }
 }
 

@@ -3,21 +3,35 @@ ghost use Rattle.std.specs.Prelude.{◌≡◌, ◌≤◌, ◌^◌};
 ghost use Rattle.dm_reading.specs.Words.{source_words};
 ghost use Rattle.dm_asm.specs.Labels.{place_in};
 ghost use Rattle.dm_asm.specs.Texts.{text_in};
-ghost use Rattle.dm_explain.specs.TextFaults.{given_why, is_due, is_text, last_why, line_why, long_why, operand_why, operands_why, statement_why, takes_why, text_why, words_why};
+ghost use Rattle.dm_explain.specs.TextFaults.{given_label_why, given_why, is_due, is_text, last_why, line_why, long_why, operand_why, operands_why, statement_why, takes_why, text_why, words_why};
 
 use crate::source::{Last, Takes, takes_named};
-use dm_asm::labels::{Labels, line_counted, split_label};
+use dm_asm::calls::argument_of;
+use dm_asm::labels::{Labels, is_misplaced, line_counted, split_label};
 use dm_asm::lines::uncommented;
 use dm_asm::numbers::register;
-use dm_asm::operands::{call_within, distance_to, multiple_within, number_within, value_within};
+use dm_asm::operands::{
+    call_within, distance_to, multiple_within, name_within, number_within, value_within,
+};
 use dm_asm::{Why, text_operand};
 use dm_processor::MOST_MEMORY;
 use dm_reading::{Gap, count_words, next_word};
 
-/// Why a word behind the registers is refused, if it is.
-fn last_why(labels: &Labels, at: u128, last: Last, word: &[u8]) -> Option<Why>
+/// Why a word of `.equ` at a place is refused, if it is.
+fn given_label_why(place: u64, word: &[u8]) -> Option<Why>
+    ensures { result ≡ given_label_why place word.now }
+{
+    if place == 1 {
+        name_within(word).err()
+    } else {
+        number_within(word, u32::MAX).err()
+    }
+}
+
+/// Why a word at a place behind the registers is refused, if it is.
+fn last_why(labels: &Labels, at: u128, last: Last, place: u64, word: &[u8]) -> Option<Why>
     requires { at ≤ 2 ^ 127 }
-    ensures { result ≡ last_why (place_in labels.now) at last word.now }
+    ensures { result ≡ last_why (place_in labels.now) at last place word.now }
 {
     match last {
         Last::Nothing | Last::Text => None,
@@ -27,6 +41,8 @@ fn last_why(labels: &Labels, at: u128, last: Last, word: &[u8]) -> Option<Why>
         Last::Call => call_within(word).err(),
         Last::Multiple => multiple_within(word).err(),
         Last::Bytes => number_within(word, 255).err(),
+        Last::Arguments(call) => argument_of(labels, call, place, word).err(),
+        Last::GivenLabel => given_label_why(place, word),
     }
 }
 
@@ -39,7 +55,7 @@ fn operand_why(labels: &Labels, at: u128, takes: Takes, place: u64, word: &[u8])
     if place <= u64::from(takes.registers) {
         register(word).ok_or(Why::BadRegister).err()
     } else {
-        last_why(labels, at, takes.last, word)
+        last_why(labels, at, takes.last, place, word)
     }
 }
 
@@ -72,6 +88,8 @@ fn is_due(takes: Takes, there: usize) -> bool
         Last::Number(_) | Last::Value(_) | Last::Label | Last::Call | Last::Multiple => {
             there == registers + 1
         }
+        Last::Arguments(call) => call.takes(there),
+        Last::GivenLabel => there == registers + 2,
     }
 }
 
@@ -149,6 +167,9 @@ fn words_why(labels: &Labels, number: usize, at: u128, words: &[u8]) -> Option<W
     requires { at ≤ 2 ^ 127 }
     ensures { result ≡ words_why (place_in labels.now) number at (text_in words.now) (source_words words.now) }
 {
+    if is_misplaced(words) {
+        return Some(Why::UnknownWord);
+    }
     let (label, statement) = split_label(words);
     statement_why(labels, at, labels.is_twice(number, label), words, statement)
 }

@@ -11,6 +11,7 @@ use crate::part::{Part, put_parts};
 use crate::told::elements::{put_name, put_numbered, put_titled};
 use crate::told::programs::put_line;
 use crate::wanted::{IMAGE_KEYS, IMAGE_RANGES, MACHINE_KEYS, MACHINE_RANGES};
+use dm_asm::labels::Labels;
 use dm_asm::{AssembleError, Image, assemble};
 use dm_boot::names::is_name;
 use dm_boot::tables::text_at;
@@ -130,7 +131,15 @@ fn put_text(alloc: Global, into: &mut Vec<u8>, image: &Value) -> Result<(), NoMe
     match assemble(alloc, text) {
         Ok(_) => Ok(()),
         Err(AssembleError::Fault { line, why }) => {
-            put_line(into, image, line, why, text_line(text.as_bytes(), line))
+            let labels = Labels::of(alloc, text.as_bytes())?;
+            put_line(
+                into,
+                image,
+                &labels,
+                line,
+                why,
+                text_line(text.as_bytes(), line),
+            )
         }
         Err(AssembleError::NoMemory(no)) => Err(no),
     }

@@ -1,5 +1,5 @@
 //! What is said of the lines of an image's text that are refused.
-ghost use Rattle.std.specs.Prelude.{◌≡◌, ◌++◌, ◌∷◌, ◌<◌, ◌^◌, [], IfSome, OnOk, codes, option_and_then, option_copied};
+ghost use Rattle.std.specs.Prelude.{◌≡◌, ◌++◌, ◌∷◌, ◌<◌, ◌^◌, [], IfSome, OnOk, codes, option_and_then, option_copied, option_map};
 ghost use Rattle.std.specs.Fmt.{decimal};
 ghost use Rattle.std.specs.List.{concat};
 ghost use Rattle.toml.specs.View.{view};
@@ -7,13 +7,13 @@ ghost use Rattle.dm_reading.specs.Lines.{source_lines};
 ghost use Rattle.dm_asm.specs.Assembled.{assembled, places_of};
 ghost use Rattle.dm_asm.specs.Labels.{place_in};
 ghost use Rattle.dm_boot.specs.Tables.{text_at};
-ghost use Rattle.dm_explain.specs.BadSources.{last_of, source_of};
+ghost use Rattle.dm_explain.specs.BadSources.{bad_word_in, bad_word_of, last_of, source_of};
 ghost use Rattle.dm_explain.specs.TextPlace.{line_before};
-ghost use Rattle.dm_explain.specs.Told.{again_told, image_line_told, label_note, later_lines, line_fault_told, literal_note, note_told, place_told, program_told, refusal_told, rule_title, whole_program_told};
+ghost use Rattle.dm_explain.specs.Told.{again_told, given_label_note, image_line_told, label_note, later_lines, line_fault_told, literal_note, note_told, place_told, program_told, refusal_told, rule_title, whole_program_told};
 
 use crate::part::{Part, put, put_parts};
 use crate::program::{line_before, line_why};
-use crate::source::{Last, statement_of};
+use crate::source::{Last, Wrong, bad_word_in, statement_of};
 use crate::told::refused::put_refused;
 use dm_asm::labels::{Labels, defined_by, line_counted};
 use dm_asm::{AssembleError, Why, assemble};
@@ -54,11 +54,12 @@ pub(super) fn put_title(into: &mut Vec<u8>, rule: BootRule) -> Result<(), NoMemo
 pub(super) fn put_line(
     into: &mut Vec<u8>,
     image: &Value,
+    labels: &Labels,
     number: usize,
     why: Why,
     line: &[u8],
 ) -> Result<(), NoMemory>
-    ensures { OnOk result (into.new.items ≡ into.old.items ++ image_line_told (view image.now) number why line.now) }
+    ensures { OnOk result (into.new.items ≡ into.old.items ++ image_line_told (view image.now) (place_in labels.now) number why line.now) }
 {
     put_parts(
         into,
@@ -70,7 +71,7 @@ pub(super) fn put_line(
             Part::Text(": "),
         ],
     )?;
-    put_refused(into, why, line)
+    put_refused(into, labels, why, line)
 }
 
 /// Writes what is said behind the first line of an image's text that is refused, whose text stands in a file.
@@ -139,7 +140,7 @@ fn put_note(into: &mut Vec<u8>, labels: &Labels, why: Why, line: &[u8]) -> Resul
     ensures { OnOk result (into.new.items ≡ into.old.items ++ note_told (place_in labels.now) why line.now) }
 {
     match why {
-        Why::BadNumber => put(into, literal_note_of(line)),
+        Why::BadNumber => put(into, literal_note_of(labels, line)),
         Why::LabelTwice => put_label_note(into, labels, defined_by(line)),
         Why::UnknownWord
         | Why::BadRegister
@@ -151,11 +152,12 @@ fn put_note(into: &mut Vec<u8>, labels: &Labels, why: Why, line: &[u8]) -> Resul
 }
 
 /// What a number or a text is, where one must stand in a line.
-fn literal_note_of(line: &[u8]) -> &'static str
-    ensures { result.now ≡ literal_note (last_of (source_of line.now)) }
+fn literal_note_of(labels: &Labels, line: &[u8]) -> &'static str
+    ensures { result.now ≡ literal_note (last_of (source_of line.now)) (bad_word_in (place_in labels.now) (source_of line.now)) }
 {
-    match statement_of(line) {
-        Some(statement) => literal_note(statement.takes.last),
+    let statement = statement_of(line);
+    match statement {
+        Some(found) => literal_note(found.takes.last, bad_word_in(labels, statement)),
         None => "",
     }
 }
@@ -187,21 +189,38 @@ fn put_first_line(into: &mut Vec<u8>, line: usize) -> Result<(), NoMemory>
     )
 }
 
+/// What a number is.
+const NUMBER_NOTE: &str =
+    "    a number has digits alone, or 0x and hexadecimal digits, or is a character, as 'a'\n";
+
 /// What a number or a text is, where one must stand.
-fn literal_note(last: Last) -> &'static str
-    ensures { result.now ≡ literal_note last }
+fn literal_note(last: Last, bad: Option<Wrong<'_>>) -> &'static str
+    ensures { result.now ≡ literal_note last (option_map bad_word_of bad.entry) }
 {
     match last {
-        Last::Number(_) | Last::Value(_) | Last::Multiple | Last::Bytes => {
-            "    a number has digits alone, or 0x and hexadecimal digits\n"
-        }
+        Last::Number(_) | Last::Value(_) | Last::Multiple | Last::Bytes | Last::Arguments(_) =>
+            NUMBER_NOTE,
         Last::Text => {
             "    a text has printed bytes alone, without quotation marks and semicolons, and nothing stands behind it\n"
         }
         Last::Call => {
-            "    a number has digits alone, or 0x and hexadecimal digits; a call is EXIT OUT MAKE COPY DROP SEND RECEIVE or MOVE\n"
+            "    a number has digits alone, or 0x and hexadecimal digits, or is a character, as 'a'; a call is EXIT OUT MAKE COPY DROP SEND RECEIVE or MOVE\n"
         }
+        Last::GivenLabel => given_label_note(bad),
         Last::Label | Last::Nothing => "",
+    }
+}
+
+/// What a number is, or the label of `.equ`, where one must stand.
+fn given_label_note(bad: Option<Wrong<'_>>) -> &'static str
+    ensures { result.now ≡ given_label_note (option_map bad_word_of bad.entry) }
+{
+    match bad {
+        None => "",
+        Some(bad) if bad.place == 1 => {
+            "    a label has 1 to 16 of a to z, 0 to 9 and _, the first no digit, and is no register\n"
+        }
+        Some(_) => NUMBER_NOTE,
     }
 }
 
@@ -271,10 +290,10 @@ fn put_again(
     why: Why,
     line: &[u8],
 ) -> Result<(), NoMemory>
-    ensures { OnOk result (into.new.items ≡ into.old.items ++ again_told (view program.now.image.now) program.now.first number why line.now) }
+    ensures { OnOk result (into.new.items ≡ into.old.items ++ again_told (view program.now.image.now) program.now.first (place_in program.now.labels.now) number why line.now) }
 {
     if program.first < number {
-        put_refused_line(into, program.image, number, why, line)
+        put_refused_line(into, program, number, why, line)
     } else {
         Ok(())
     }
@@ -283,15 +302,15 @@ fn put_again(
 /// Writes that a line is refused, as a line.
 fn put_refused_line(
     into: &mut Vec<u8>,
-    image: &Value,
+    program: &Program<'_, '_>,
     number: usize,
     why: Why,
     line: &[u8],
 ) -> Result<(), NoMemory>
-    ensures { OnOk result (into.new.items ≡ into.old.items ++ (rule_title BootRule.ImageText ++ image_line_told (view image.now) number why line.now ++ codes "\n")) }
+    ensures { OnOk result (into.new.items ≡ into.old.items ++ (rule_title BootRule.ImageText ++ image_line_told (view program.now.image.now) (place_in program.now.labels.now) number why line.now ++ codes "\n")) }
 {
     put_title(into, BootRule::ImageText)?;
-    put_line(into, image, number, why, line)?;
+    put_line(into, program.image, program.labels, number, why, line)?;
     put(into, "\n")
 }
 

@@ -1,0 +1,5 @@
+
+
+[[image]] # one
+name = "a"
+text = "sys \q"

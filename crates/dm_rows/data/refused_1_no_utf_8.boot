@@ -1,0 +1,4 @@
+
+
+[[image]] # one
+name = "ÿ"

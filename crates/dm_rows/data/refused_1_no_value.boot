@@ -1,0 +1,4 @@
+# a number is missing
+
+quantum
+machine = []

@@ -1,0 +1,4 @@
+
+
+[[machine]
+slots = 1

@@ -1,0 +1,3 @@
+
+
+quantum = 1 numbers = 2

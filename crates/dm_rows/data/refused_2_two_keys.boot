@@ -1,0 +1,2 @@
+zeta = 1
+alpha = 2

@@ -1,0 +1,4 @@
+format = 0
+[[machine]]
+slots = 0
+blocks = 0

@@ -1,0 +1,1 @@
+machine = [{ slots = 0, blocks = 4097 }]

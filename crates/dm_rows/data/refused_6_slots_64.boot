@@ -1,0 +1,1 @@
+machine = [{ slots = 64, blocks = 4097 }]
