@@ -6,6 +6,7 @@ mod ByRule
 mod NoWords
 mod Pieces
 mod Sound
+mod SoFar
 mod RunsChecked
 mod DrillsChecked
 mod OwnDrilled

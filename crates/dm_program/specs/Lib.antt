@@ -7,3 +7,4 @@ pub mod Laws
 pub mod OwnLaws
 pub mod Labels
 pub mod Theorem
+pub mod SoFar
