@@ -8,8 +8,6 @@ of that crate. What is counted stands in COUNTED. Prints each that isn't so with
 import glob, os, re, sys
 
 TOP = os.path.normpath(os.path.join(os.path.dirname(os.path.abspath(__file__)), ".."))
-# what a page speaks of that is no more, or is another project's
-GONE = {"docs/GATE.md": {"dm_drawing", "dm_settlelaws", "dm_sides", "dm_checklaws", "dm_looklaws", "dm_explorelaws"}}
 FOLDERS = "crates|docs|examples|outside|measure|viewer"
 NUMBERS = "none one two three four five six seven eight nine ten eleven twelve thirteen fourteen fifteen sixteen".split()
 
@@ -85,16 +83,15 @@ class Faults:
             return all(p in self.of_crate(parts[0], self.words, crate_words) for p in parts[1:])
         return all(p in self.all or p in self.crates for p in parts)
 
-    def of_line(self, page, line):
-        gone = GONE.get(page, set())
+    def of_line(self, line):
         for found, path in files_named(line):
-            if not is_there(path) and path.split("/")[1] not in gone:
+            if not is_there(path):
                 yield f"no such file: {found}"
         for crate in re.findall(r"\bdm_\w+\b", line):
-            if crate not in self.crates and crate not in gone and not re.search(r"dm_x\b", crate):
+            if crate not in self.crates and not re.search(r"dm_x\b", crate):
                 yield f"no such crate: {crate}"
         for word in names_in(line):
-            if not self.is_known(word) and word not in gone:
+            if not self.is_known(word):
                 yield f"nothing has this name: {word}"
         for crate, clause in clauses_in(line):
             if crate in self.crates and clause not in self.of_crate(crate, self.clauses, clauses_of):
@@ -145,7 +142,7 @@ def counted():
 def main():
     pages = ["README.md", "examples/README.md"] + sorted(os.path.relpath(p, TOP) for p in glob.glob(f"{TOP}/docs/*.md"))
     faults = Faults()
-    found = [f"{page}:{k}: {fault}" for page in pages for k, line in enumerate(read(f"{TOP}/{page}").split("\n"), 1) for fault in faults.of_line(page, line)]
+    found = [f"{page}:{k}: {fault}" for page in pages for k, line in enumerate(read(f"{TOP}/{page}").split("\n"), 1) for fault in faults.of_line(line)]
     found += counted()
     print(*found or [f"{len(pages)} pages name what there is, and count it rightly"], sep="\n")
     return bool(found)

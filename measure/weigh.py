@@ -14,7 +14,7 @@ sys.path.insert(0, os.path.dirname(os.path.abspath(__file__)))
 from lawbook import Book, reach
 
 LAWS = ("dm_law_rule", "dm_law_always", "dm_law_sides", "dm_law_places", "dm_law_mirror", "dm_law_moves")
-CLAUSES = {"the command run": ("dm_commands/src/run.rt",), "the program": ("dm_program/src/entry.rt", "dm_program/src/program.rt")}
+CLAUSES = {"the command run": ("dm_cmd_run/src/run.rt",), "the program": ("dm_program/src/entry.rt", "dm_program/src/program.rt")}
 NOTHING = re.compile(r"^\s*[a-z_].* = (?:None|false|\[\]|⊥|⊤|v|s|a|x|tt)$")
 
 

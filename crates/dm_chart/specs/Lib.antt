@@ -1,5 +1,6 @@
 pub mod Roles
 pub mod Spots
+pub mod Stays
 pub mod Ahead
 pub mod Behind
 pub mod Styles

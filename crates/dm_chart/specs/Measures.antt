@@ -1,28 +1,31 @@
 -- Where things stand in a picture, in units of the picture.
-use Rattle.std.specs.Prelude.{ℕ, ◌+◌, ◌-◌, ◌*◌, ◌/◌, ◌%◌, ◌&&◌, nat_lt, nat_le, Bool, if◌then◌else◌, length, position, slice_index}
+use Rattle.std.specs.Prelude.{ℕ, ◌+◌, ◌-◌, ◌*◌, ◌/◌, ◌%◌, ◌&&◌, nat_lt, nat_le, Bool, if◌then◌else◌, count_by, slice_index}
 use Rattle.std.specs.declared.option.Option.{Option}
-use Rattle.std.specs.declared.option.Option.TheVariants.{None, Some}
 use Rattle.dm_link.specs.declared.Pid.{Pid}
-use Rattle.dm_link.specs.Names.{pid_eq}
 use Rattle.dm_chart.specs.declared.frame.Frame.{Frame}
 use Rattle.dm_chart.specs.declared.frame.Point.{Point}
 use Rattle.dm_chart.specs.Spots.{most_rows}
+use Rattle.dm_chart.specs.Stays.{is_before, lane_among}
 
 -- at most twelve lanes
 abbrev pub few : ℕ → ℕ
 few n = if nat_lt n 12 then n else 12
 
--- the column of a machine: the axis, the lanes
+-- the column of a machine: the axis, and as many lanes as a machine has bars at most
 unfoldable pub column : Frame → ℕ
-column f = 90 + 22 * few (length f.processes)
+column f = 90 + 22 * few f.lanes
 
 -- the axis of a machine: where its messages leave, and enter its inbox
 unfoldable pub axis : Frame → ℕ → ℕ
 axis f m = 440 + m * column f
 
--- the lane of a process on a machine
+-- how many processes with a lower lane ever have a bar on a machine
+abbrev pub lanes_before : Frame → ℕ → ℕ → ℕ
+lanes_before f m lane = count_by (is_before m lane) f.stays
+
+-- the lane of a process on a machine: beside those of the others that ever have a bar there
 unfoldable pub lane_at : Frame → ℕ → ℕ → ℕ
-lane_at f m lane = axis f m + 20 + 22 * few lane
+lane_at f m lane = axis f m + 20 + 22 * few (lanes_before f m lane)
 
 -- where what the rows say stands: left of all machines, so that no arrow goes through it
 abbrev pub words_at : ℕ
@@ -89,13 +92,9 @@ on_lane f m lane row = point (lane_at f m lane) (height row)
 abbrev pub towards : Frame → ℕ → ℕ → ℕ → ℕ → ℕ → Point
 towards f a b row far down = point (if nat_lt a b then axis f a + far else axis f a - far) (height row + down)
 
--- the first twelve processes have a lane
-abbrev pub within_lanes : Option ℕ → Option ℕ
-within_lanes None = None
-within_lanes (Some i) = if nat_lt i 12 then Some i else None
-
+-- the lane of a process
 abbrev pub lane_of : Frame → Pid → Option ℕ
-lane_of f p = within_lanes (position (λ q. pid_eq q p) f.processes)
+lane_of f p = lane_among f.processes p
 
 -- the number of a group that is shown
 abbrev pub number_shown : Frame → ℕ → ℕ

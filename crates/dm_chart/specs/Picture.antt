@@ -20,7 +20,9 @@ use Rattle.dm_chart.specs.declared.role.Role.TheVariants as role
 use Rattle.dm_chart.specs.Roles.{role_of}
 use Rattle.dm_chart.specs.Shapes.{shapes}
 use Rattle.dm_chart.specs.Measures.{breadth, height, name_at, name_room, point, whole_height}
-use Rattle.dm_chart.specs.Spots.{one_row_more}
+use Rattle.dm_chart.specs.Spots.{first_spot, one_row_more}
+use Rattle.dm_chart.specs.Stays.{most_on, stays_in}
+use Rattle.dm_chart.specs.declared.stay.Stay.{Stay}
 use Rattle.dm_chart.specs.Drawn.{all_drawn, written}
 use Rattle.dm_chart.specs.Legend.{style_sheet, marks, meanings}
 use Rattle.dm_chart.specs.Kept.{kept_of}
@@ -52,8 +54,12 @@ abbrev pub processes_in : List Pid → List Line → List Pid
 processes_in ps ls = ps ++ flat_map (λ l. made_in (role_of l)) ls
 
 -- below the last row there is one of which nothing is said, into which all goes that goes on
+abbrev pub framed : ℕ → List Pid → List Stay → Kept → Frame
+framed machines ps ss k =
+    record { machines = machines; processes = ps; stays = ss; lanes = most_on ss machines; numbers = k.numbers; rows = one_row_more k.rows; hidden = k.hidden; layer = layer.Grounds }
+
 abbrev pub frame_of : ℕ → List Pid → Kept → Frame
-frame_of machines ps k = record { machines = machines; processes = processes_in ps k.lines; numbers = k.numbers; rows = one_row_more k.rows; hidden = k.hidden; layer = layer.Grounds }
+frame_of machines ps k = framed machines (processes_in ps k.lines) (stays_in (processes_in ps k.lines) ps (first_spot k.hidden) k.lines) k
 
 -- the attributes of the picture, with the names of so many processes
 abbrev pub extent : Frame → ℕ → List (List ℕ × List ℕ)

@@ -11,7 +11,7 @@ ghost use Rattle.dm_chart.specs.Spots.{first_spot};
 ghost use Rattle.dm_chart.specs.Xml.{opening_tag};
 
 use crate::draw::put_written;
-use crate::frame::{Frame, Layer, MOST_LANES, Point, breadth, height, name_room, whole_height};
+use crate::frame::{Frame, Layer, Point, breadth, height, name_room, whole_height};
 use crate::headings::put_column;
 use crate::kept::Kept;
 use crate::key::{put_marks, put_meanings, put_style_sheet};
@@ -20,6 +20,7 @@ use crate::lines::{put_lines, put_living};
 use crate::role::{Life, Role, role_of};
 use crate::spot::{first_spot, more};
 use crate::starts::Starts;
+use crate::stay::{MOST_LANES, most_on, stays_in};
 use crate::xml::{Attribute, put_alone, put_bytes, put_closing, put_opening, put_words};
 use dm_line::line::Line;
 use dm_link::Pid;
@@ -59,11 +60,17 @@ pub fn picture(
 fn frame_of(alloc: Global, machines: u8, starts: &[Pid], kept: &Kept) -> Result<Frame, NoMemory>
     ensures { IfOk result (λ f. f ≡ frame_of machines starts.now kept.now) }
 {
-    let processes = processes_in(alloc, starts, kept.lines.as_slice())?;
+    let lines = kept.lines.as_slice();
+    let processes = processes_in(alloc, starts, lines)?;
+    let before = first_spot(kept.hidden);
+    let stays = stays_in(alloc, processes.as_slice(), starts, before, lines)?;
+    let lanes = most_on(stays.as_slice(), machines);
     let numbers = copied(alloc, kept.numbers.as_slice())?;
     Ok(Frame {
         machines,
         processes,
+        stays,
+        lanes,
         numbers,
         rows: more(kept.rows),
         hidden: kept.hidden,

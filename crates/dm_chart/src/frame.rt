@@ -1,10 +1,9 @@
 //! Where things stand in a picture, in units of the picture.
-ghost use Rattle.std.specs.Prelude.{◌≡◌, ◌≤◌, position};
-ghost use Rattle.dm_link.specs.Names.{pid_eq};
+ghost use Rattle.std.specs.Prelude.{◌≡◌, ◌≤◌};
 ghost use Rattle.dm_chart.specs.Measures.{above_next, at_least_legend, axis, block_end, blocks_before, breadth, column, few, goes_on, height, lane_at, lane_of, name_at, name_room, number_shown, on_axis, on_lane, rows_within, starts_within, towards, whole_height};
 
-use crate::scan::same_pid;
 use crate::spot::MOST_ROWS;
+use crate::stay::{MOST_LANES, Stay, lane_among, lanes_before};
 use dm_link::Pid;
 use dm_lists::Items;
 
@@ -13,9 +12,6 @@ const LEGEND: u32 = 620;
 
 /// Where what the rows say stands: left of all machines, so that no arrow goes through it.
 pub const WORDS: u32 = 160;
-
-/// The most processes that have a lane.
-pub const MOST_LANES: usize = 12;
 
 /// No boot file has more processes: 16 machines of at most 64.
 const MOST_STARTS: usize = 1024;
@@ -43,8 +39,11 @@ pub struct Point {
 #[derive(Drop)]
 pub struct Frame {
     pub machines: u8,
-    /// The processes, of which the first 12 have a lane; each has the same lane in every column.
+    /// The processes, of which the first 12 have a lane.
     pub processes: Items<Pid>,
+    /// On which machines these ever have a bar, and how many a machine has at most.
+    pub stays: Items<Stay>,
+    pub lanes: usize,
     /// The number of each group that is shown.
     pub numbers: Items<u64>,
     /// How many rows there are, with one below the last of which nothing is said: all goes into it that goes on.
@@ -71,13 +70,13 @@ fn few(count: usize) -> u32
     if count < MOST_LANES { count as u32 } else { 12 }
 }
 
-/// The breadth of a machine's column: the axis, the lanes.
+/// The breadth of a machine's column: the axis, and as many lanes as a machine has bars at most.
 #[tactic(auto, unfolding(crate::specs::Measures::column))]
 pub fn column(frame: &Frame) -> u32
     ensures column { result ≡ column frame.now }
     ensures most { result ≤ 500 }
 {
-    90 + 22 * few(frame.processes.len())
+    90 + 22 * few(frame.lanes)
 }
 
 /// Where the axis of a machine stands: where its messages leave and enter its inbox.
@@ -97,7 +96,7 @@ pub fn lane_at(frame: &Frame, m: u8, lane: usize) -> u32
     ensures least { 440 ≤ result }
     ensures most { result ≤ 210000 }
 {
-    axis(frame, m) + 20 + 22 * few(lane)
+    axis(frame, m) + 20 + 22 * few(lanes_before(frame.stays.as_slice(), m, lane))
 }
 
 fn rows_within(row: u32) -> u32
@@ -246,23 +245,7 @@ pub fn whole_height(frame: &Frame, count: usize) -> u32
 pub fn lane_of(frame: &Frame, pid: Pid) -> Option<usize>
     ensures { result ≡ lane_of frame.now pid }
 {
-    match place_of(frame.processes.as_slice(), pid) {
-        Some(place) => {
-            if place < MOST_LANES {
-                Some(place)
-            } else {
-                None
-            }
-        }
-        None => None,
-    }
-}
-
-/// The place of a process among these.
-fn place_of(processes: &[Pid], pid: Pid) -> Option<usize>
-    ensures { result ≡ position (λ q. pid_eq q pid) processes.now }
-{
-    processes.iter().position(|p| same_pid(*p, pid))
+    lane_among(frame.processes.as_slice(), pid)
 }
 
 /// The number of a group that is shown, the first at 1.

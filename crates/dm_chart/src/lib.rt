@@ -17,6 +17,7 @@ mod role;
 mod scan;
 mod spot;
 mod starts;
+mod stay;
 mod style;
 mod ways;
 mod xml;

@@ -1,45 +1,45 @@
--- What the commands say of the machines is so by the rule.
-use Rattle.dm_commands.proofs.Names.{◌≡◌, ℕ, List, subst, sym, length, Option, Some, None, TheNoMemory, Boot, Directive, All, IsFor, Request, Status, NoMemory, IsWithin, World, boot_of_machines, directives_of_drill, Drill}
-use Rattle.dm_draw.proofs.Valid.{boot_valid}
-use Rattle.dm_draw.proofs.Within.{boot_machines, directive_fits, directives_fit}
-use Rattle.dm_draw.specs.Directives.{directive_drawn}
-use Rattle.dm_words.proofs.Ranges.{Fits}
-use Rattle.dm_commands.proofs.Carrying.{CarriesTerms, carried}
-use Rattle.dm_law_runs.proofs.Choices.ByRule.Answered.{answered}
-use Rattle.dm_commands.proofs.Exploring.{asked_for}
-use Rattle.dm_commands.specs.Explores.{bounds_for, question_for}
-use Rattle.dm_commands.proofs.Drills.{all_for}
-use Rattle.dm_commands.proofs.Obeying.{command_met, lacks_meets}
-use Rattle.dm_commands.proofs.Silent.{silent}
-use Rattle.dm_commands.specs.Commands.{CommandMeets}
-use Rattle.dm_commands.specs.Outside.{Around, Untouched}
-use Rattle.dm_commands.specs.Says.{of_world}
-use Rattle.dm_program.proofs.Deciding.{decided}
-use Rattle.dm_program.proofs.Runs.ByRule.{carries}
-use Rattle.dm_program.proofs.Runs.Looks.{sees}
-use Rattle.dm_program.proofs.Traces.{carries_traces}
-use Rattle.dm_program.specs.Program.{ProgramMeets}
-use Rattle.dm_program.specs.Rule.{of_rule}
+-- What the program promises, whatever its words ask for.
+use Rattle.dm_program.proofs.Names.{◌≡◌, inl, inr, ℕ, List, [], refl, sym, subst, ◌∙◌, Option, Some, None, TheNoMemory, Status, NoMemory, ReadFault, Usage, WriteFault, Fits, status_of_no, Request, WordsError, World, no_read, no_write}
+use Rattle.dm_program.proofs.Names.{unread, unwritten, Files, Nothing, MeetsOutside, Around, Untouched, RefusesWords, of_world, promised, ProgramMeets, of_rule}
+use Rattle.dm_words.specs.declared.words.WordsError.TheVariants as why
+use Rattle.dm_program.proofs.Kept.{kept}
 
--- the directives of a drill are for its machines
-drill_for : (d : Drill) → IsWithin d → All (IsFor (length (boot_of_machines d.machines).machines)) (directives_of_drill d)
-drill_for d within =
-    subst (λ (n : ℕ). All (IsFor n) (directives_of_drill d)) (sym (boot_machines d.machines)) (all_for d.machines (directives_of_drill d) (directives_fit d.machines (directive_drawn d.machines) d.seed d.lines (λ x. directive_fits d.machines x within.least)))
-
-by_rule : CarriesTerms of_world of_rule
-by_rule = record {
-  runs = carries;
-  looks = sees;
-  drills = λ d within. carries (boot_of_machines d.machines) (directives_of_drill d) (boot_valid d.machines within.least within.most) (drill_for d within);
-  traces = carries_traces;
-  answers = λ b line e valid within a named means. (means.0, answered b (bounds_for e) (question_for line e) a valid (asked_for (length b.machines) e named within) means.0 means.1);
+-- words that ask for nothing ask for no file
+nothing_met : {F K : Type 0} (a : Around F K) (world : Option World) (s : Status) → RefusesWords a world s → MeetsOutside Nothing a s
+nothing_met a world s h = record {
+  shelf = unread Nothing a.shelf s h.untouched.unread h.untouched.unread (λ i e. elim h.why [ inl usage ↦ let f : Usage ≡ ReadFault i = sym usage ∙ e in cc | inr want ↦ no_read want.0 i (sym want.1 ∙ e) ]);
+  sink = unwritten a.sink s h.untouched.unwritten (λ e. elim h.why [ inl usage ↦ let f : Usage ≡ WriteFault = sym usage ∙ e in cc | inr want ↦ no_write want.0 (sym want.1 ∙ e) ]);
 }
 
-pub program_meets : {F K : Type 0} (r : Option Request) (a : Around F K) (world : Option World) (s : Status) → CommandMeets of_world r a world s → ProgramMeets r a world s
-program_meets r a world s h =
-    let does = carried of_world of_rule r a world s by_rule h in
-    record { does = does; decided = decided r a world s does; met = command_met of_rule r a world s does }
+-- what was done as the machines have it was done as the rule has it
+pub program_meets : {F K : Type 0} (r : Option Request) (a : Around F K) (world : Option World) (s : Status) → Fits r → (promised of_world r).meets a world s → ProgramMeets r a world s
+program_meets None a world s fits h = record { does = h; decided = tt; met = nothing_met a world s h }
+program_meets (Some r) a world s fits h =
+    let k = kept r fits in
+    let does = k.carried a world s h in
+    record { does = does; decided = k.decided a world s does; met = k.met a world s does }
 
 -- nothing was done for want of memory
 pub program_lacks : {F K : Type 0} (r : Option Request) (a : Around F K) (world : Option World) (lack : TheNoMemory) → Fits r → Untouched a world → ((name : List ℕ) → a.shelf.asked a.shelf.old name a.shelf.old) → ProgramMeets r a world (NoMemory lack)
-program_lacks r a world lack fits untouched nothing = program_meets r a world (NoMemory lack) (lacks_meets of_world r a world lack silent fits untouched nothing)
+program_lacks None a world lack fits untouched nothing = program_meets None a world (NoMemory lack) fits (record { why = inr (lack, refl); untouched = untouched })
+program_lacks (Some r) a world lack fits untouched nothing = program_meets (Some r) a world (NoMemory lack) fits ((kept r fits).lacks a world lack untouched nothing)
+
+-- the words ask for nothing, or memory lacks
+pub no_request : {F K : Type 0} (r : Option Request) (a : Around F K) (world : Option World) (reason : WordsError) → Fits r → Untouched a world → ((name : List ℕ) → a.shelf.asked a.shelf.old name a.shelf.old) → (reason ≡ why.Usage → r ≡ None) → ProgramMeets r a world (status_of_no reason)
+no_request r a world why.Usage fits h nothing usage =
+    subst (λ x. ProgramMeets x a world Usage) (sym (usage refl)) (program_meets None a world Usage tt (record { why = inl refl; untouched = h }))
+no_request r a world (why.NoMemory lack) fits h nothing usage = program_lacks r a world lack fits h nothing
+
+-- then nothing is said of a file
+pub silent_lack : (r : Option Request) (files : Option Files) (lack : TheNoMemory) (said : List ℕ) → Fits r → said ≡ [] → (promised of_rule r).first files (NoMemory lack) said
+silent_lack None files lack said fits none = none
+silent_lack (Some r) files lack said fits none = (kept r fits).silent files lack said none
+
+pub silent_words : (r : Option Request) (files : Option Files) (reason : WordsError) (said : List ℕ) → Fits r → (reason ≡ why.Usage → r ≡ None) → said ≡ [] → (promised of_rule r).first files (status_of_no reason) said
+silent_words r files why.Usage said fits usage none = subst (λ x. (promised of_rule x).first files Usage said) (sym (usage refl)) none
+silent_words r files (why.NoMemory lack) said fits usage none = silent_lack r files lack said fits none
+
+-- words are refused as such
+pub words_usage : (reason : WordsError) → status_of_no reason ≡ Usage → reason ≡ why.Usage
+words_usage why.Usage e = refl
+words_usage (why.NoMemory lack) e = cc

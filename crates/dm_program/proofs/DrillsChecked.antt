@@ -1,33 +1,10 @@
 -- What `drill --trace` writes of its groups, `check` finds good.
-use Rattle.dm_commands.proofs.Names.{◌≡◌, ◌≤◌, ◌==◌, nat_lt, ℕ, suc, Bool, true, false, List, [], ◌∷◌, ◌++◌, length, ap, sym, subst, ◌∙◌, arith, if◌then◌else◌, All, All-cons, All-nil, Option, Some, Boot, Directive, World, appended, Drill, IsWithin, boot_of_machines}
-use Rattle.std.proofs.Common.{zero}
-use Rattle.std.proofs.lemmas.List.{append-nil}
-use Rattle.std.proofs.lemmas.List.Elements.{All-append}
-use Rattle.dm_draw.proofs.Drawing.{drawn_next, drawn_none}
-use Rattle.dm_draw.proofs.Names.{Drawn, deliver_drawn, directives_by, drawn, migrate_drawn, round_drawn, state_behind, stepped, tick_drawn, turn_drawn}
-use Rattle.dm_draw.proofs.Valid.{boot_valid}
-use Rattle.dm_draw.proofs.Within.{boot_machines, drawn_below}
+use Rattle.dm_program.proofs.Names.{◌≡◌, ◌≤◌, ℕ, suc, Bool, true, false, List, [], ◌∷◌, ◌++◌, length, ap, sym, subst, ◌∙◌, arith, Option, Some, zero, ◌==◌, nat_lt, if◌then◌else◌, All, All-cons, All-nil, All-append, Boot, Directive, World}
+use Rattle.dm_program.proofs.Names.{appended, Drill, IsWithin, boot_of_machines, append-nil, drawn_next, drawn_none, Drawn, deliver_drawn, directives_by, drawn, migrate_drawn, round_drawn, state_behind, stepped, tick_drawn, turn_drawn}
+use Rattle.dm_program.proofs.Names.{boot_valid, boot_machines, drawn_below, directive_drawn, Line, LineFits, text_of_lines, Point, Todo, IsGood, joined, IsDirective, Open, beginnings_open, HasHome, verdict, totals_of, DrillIsWhole}
+use Rattle.dm_program.proofs.Names.{text_shown, summary, directives_of_drill, report_of, all_for, DrillsCheck, DrillsMayStart, IsGoodDrill, IsGoodWornDrill, by_rule}
 use Rattle.dm_draw.proofs.Within as within_
-unfoldable use Rattle.dm_draw.specs.Directives.{directive_drawn}
-use Rattle.dm_line.specs.declared.line.Line.{Line}
-use Rattle.dm_text.specs.Fits.{LineFits}
-use Rattle.dm_text.specs.Text.{text_of_lines}
-use Rattle.dm_law_rule.specs.Point.{Point}
-use Rattle.dm_line.specs.Todo.{Todo}
-use Rattle.dm_law_mirror.specs.Run.{IsGood, joined}
-use Rattle.dm_law_mirror.specs.Todo.{IsDirective}
-use Rattle.dm_check.specs.Judge.{Open}
-use Rattle.dm_law_runs.proofs.Traces.Runs.{beginnings_open}
-use Rattle.dm_law_runs.specs.Traces.Laws.{HasHome}
-use Rattle.dm_law_runs.specs.Traces.Verdict.{verdict}
-use Rattle.dm_drill.specs.Counts.{totals_of}
-use Rattle.dm_drill.specs.Drilled.{DrillIsWhole, text_shown}
-use Rattle.dm_drill.specs.Summary.{summary}
-use Rattle.dm_commands.specs.Drills.{directives_of_drill, report_of}
-use Rattle.dm_commands.proofs.Drills.{all_for}
 use Rattle.dm_program.proofs.Runs.Fits.{directives_fit}
-use Rattle.dm_program.specs.Laws.{DrillsCheck, DrillsMayStart, IsGoodDrill, IsGoodWornDrill}
-use Rattle.dm_program.specs.Printed.{by_rule}
 
 -- a process that is to move is at home on one of the machines
 home_fits : (n x : ℕ) → 2 ≤ n → HasHome n (directive_drawn n x).directive

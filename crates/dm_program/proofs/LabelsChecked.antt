@@ -1,27 +1,8 @@
 -- The labels of what `run` writes, `check` finds good.
-use Rattle.dm_commands.proofs.Names.{◌≡◌, ◌⊎◌, inl, inr, ℕ, List, [], ◌∷◌, ◌++◌, length, refl, ap, sym, subst, ◌∙◌, All, All-cons, All-head, All-nil, All-tail, Option, Some, Boot, Directive, appended, Done, Status, AcceptsFiles, SaysBoot, IsWant}
-use Rattle.std.proofs.lemmas.List.{append-nil}
-use Rattle.dm_onekernel.specs.declared.label.Label.{Label}
-use Rattle.dm_onekernel.specs.Kernel.{OneKernel}
-use Rattle.dm_onekernel.specs.Start.{start}
-use Rattle.dm_onekernel.specs.Step.{replay}
-use Rattle.dm_line.specs.declared.end_line.EndLine.{EndLine}
-use Rattle.dm_line.specs.declared.line.Line.{Line}
+use Rattle.dm_program.proofs.Names.{◌≡◌, ◌⊎◌, inl, inr, ℕ, List, [], ◌∷◌, ◌++◌, length, refl, ap, sym, subst, ◌∙◌, Option, Some, All, All-cons, All-head, All-nil, All-tail, Boot, Directive, appended, Done, Status, AcceptsFiles, SaysBoot}
+use Rattle.dm_program.proofs.Names.{IsWant, append-nil, Label, OneKernel, start, replay, EndLine, Line, end_lines, labels, joined, EndFits, LineFits, text_of_ends, text_of_lines, printed_are_good, Good, label_lines, text_of_labels, IsWhole}
+use Rattle.dm_program.proofs.Names.{RunWears, HasLabels, NeverFails, Outside, GivesLabels, LabelsAreDecided, KeepsLabels, RunLabelsCheck, SaysLabelsAre, by_rule}
 use Rattle.dm_line.specs.declared.line.Line.TheVariants as line
-use Rattle.dm_law_rule.specs.Ends.{end_lines}
-use Rattle.dm_law_rule.specs.Point.{labels}
-use Rattle.dm_law_mirror.specs.Run.{joined}
-use Rattle.dm_text.specs.Fits.{EndFits, LineFits}
-use Rattle.dm_text.specs.Text.{text_of_ends, text_of_lines}
-use Rattle.dm_labels.proofs.Printing.{printed_are_good}
-use Rattle.dm_labels.specs.declared.judge.Verdict.TheVariants.{Good}
-use Rattle.dm_labels.specs.Printed.{label_lines, text_of_labels}
-use Rattle.dm_run.specs.Printed.{IsWhole, RunWears}
-use Rattle.dm_commands.specs.LabelChecks.{HasLabels}
-use Rattle.dm_commands.specs.Outside.{NeverFails, Outside}
-use Rattle.dm_program.specs.Decided.{GivesLabels, LabelsAreDecided}
-use Rattle.dm_program.specs.Labels.{KeepsLabels, RunLabelsCheck, SaysLabelsAre}
-use Rattle.dm_program.specs.Printed.{by_rule}
 
 -- what is readable of all lines is so of the labels among them
 labels_fit : (ls : List Line) → All LineFits ls → All LineFits (label_lines (labels ls))

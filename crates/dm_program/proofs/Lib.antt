@@ -1,12 +1,12 @@
+pub mod Names
 pub mod Runs
 mod Traces
-mod LabelsDecided
-mod LookDecided
-mod Deciding
+mod Kept
 mod ByRule
 mod NoWords
 mod Pieces
 mod Sound
+mod SoFar
 mod RunsChecked
 mod DrillsChecked
 mod OwnDrilled

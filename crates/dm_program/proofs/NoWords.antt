@@ -1,10 +1,6 @@
 -- There are no words.
-use Rattle.dm_commands.proofs.Names.{◌≡◌, ℕ, List, sym, ◌∙◌, Option, World, WordsError, status_of_no, Input, Status, Usage, ReadFault, NoMemory, WriteFault}
+use Rattle.dm_program.proofs.Names.{◌≡◌, ℕ, List, sym, ◌∙◌, Option, World, WordsError, status_of_no, Input, Status, Usage, ReadFault, NoMemory, WriteFault, unread, unwritten, Nothing, Around, Untouched, HasNoWords}
 use Rattle.dm_words.specs.declared.words.WordsError.TheVariants as why
-use Rattle.dm_commands.proofs.Meeting.{unread, unwritten}
-use Rattle.dm_commands.specs.Asked.{Nothing}
-use Rattle.dm_commands.specs.Outside.{Around, Untouched}
-use Rattle.dm_program.specs.Program.{HasNoWords}
 
 reads_none : (reason : WordsError) (i : Input) → status_of_no reason ≡ ReadFault i → ⊥
 reads_none why.Usage i e = cc

@@ -1,48 +1,16 @@
 -- What a drill of a boot file's system writes, `run` takes and `check` finds good.
-use Rattle.dm_commands.proofs.Names.{◌≡◌, ◌≤◌, ◌<◌, ◌==◌, nat_lt, ℕ, suc, Bool, true, false, List, [], ◌∷◌, ◌++◌, length, refl, ap, sym, subst, ◌∙◌, arith, if◌then◌else◌, ⊤, inl, inr, All, All-cons, All-head, All-nil, All-tail, Option, None, Some, Boot, IsValid, Directive, Pid, World, appended, Status, Done, Worn, IsDrawn}
-use Rattle.std.proofs.Common.{zero, ◌+◌, ◌*◌, ◌^◌}
-use Rattle.std.proofs.lemmas.List.{append-nil}
-use Rattle.std.specs.Prelude.{nat_le, option_map, slice_get}
-use Rattle.std.proofs.lemmas.Bool.Decides.{nat_tests}
-use Rattle.dm_draw.proofs.Names.{arrival_drawn, behind_process, calloff_drawn, deliver_drawn, drawn, move_drawn, process_drawn, round_drawn, stepped, tick_drawn, turn_drawn}
-use Rattle.dm_draw.proofs.Within.{directives_count, drawn_below, own_fits}
+use Rattle.dm_program.proofs.Names.{◌≡◌, ◌≤◌, ◌<◌, ℕ, suc, Bool, true, false, List, [], ◌∷◌, ◌++◌, length, refl, ap, sym, subst, ◌∙◌, arith, inl, inr, Option, None, Some, zero, ◌+◌, ◌*◌, ◌^◌, ◌==◌, nat_lt, if◌then◌else◌, ⊤, nat_le}
+use Rattle.dm_program.proofs.Names.{option_map, slice_get, All, All-cons, All-head, All-nil, All-tail, Boot, IsValid, Directive, Pid, World, appended, Status, Done, Worn, IsDrawn, arrival_drawn, behind_process, calloff_drawn, deliver_drawn}
+use Rattle.dm_program.proofs.Names.{drawn, move_drawn, process_drawn, round_drawn, stepped, tick_drawn, turn_drawn, append-nil, nat_tests, directives_count, drawn_below, own_fits, Shows, own_drawn, Accepted, directives_of}
+use Rattle.dm_program.proofs.Names.{processes_are_valid, starting_at, BootProcess, room_from, listed, starting-last, Line, Todo, LineFits, text_of_lines, Point, IsGood, joined, IsDirective, Open, beginnings_open, HasHome, verdict}
+use Rattle.dm_program.proofs.Names.{schedules_are_read, totals_of, DrillIsWhole, DrillWears, text_shown, CanStand, schedule_text, summary, OwnIsWithin, own_for, some_machines, SaysBoot, most_schedule, Outside, OwnSays, ShownSays}
+use Rattle.dm_program.proofs.Names.{directives_for, own_report, OwnDrillsAreFor, OwnDrillsCheck, SchedulesAreTaken, by_rule, few_machines}
 use Rattle.dm_draw.specs.declared.drill.OwnDrill.{OwnDrill}
-use Rattle.dm_draw.specs.declared.drill.Shows.{Shows}
 use Rattle.dm_draw.specs.declared.drill.Shows.TheVariants as shows
-unfoldable use Rattle.dm_draw.specs.Own.{own_drawn}
-use Rattle.dm_schedule.specs.Schedule.{Accepted, directives_of}
 use Rattle.dm_schedule.specs.declared.Directive.TheVariants as directive
 use Rattle.dm_schedule.specs.declared.Step.TheVariants as step
-use Rattle.dm_onekernel.specs.Boot.{processes_are_valid, starting_at}
-use Rattle.dm_onekernel.specs.declared.boot.BootProcess.{BootProcess}
-use Rattle.dm_kernel.proofs.Opening.{room_from}
-use Rattle.dm_law_mirror.proofs.Numbering.{listed, starting-last}
-use Rattle.dm_line.specs.declared.line.Line.{Line}
-use Rattle.dm_line.specs.Todo.{Todo}
-use Rattle.dm_text.specs.Fits.{LineFits}
-use Rattle.dm_text.specs.Text.{text_of_lines}
-use Rattle.dm_law_rule.specs.Point.{Point}
-use Rattle.dm_law_mirror.specs.Run.{IsGood, joined}
-use Rattle.dm_law_mirror.specs.Todo.{IsDirective}
-use Rattle.dm_check.specs.Judge.{Open}
-use Rattle.dm_law_runs.proofs.Traces.Runs.{beginnings_open}
-use Rattle.dm_law_runs.specs.Traces.Laws.{HasHome}
-use Rattle.dm_law_runs.specs.Traces.Verdict.{verdict}
-use Rattle.dm_drill.proofs.Back.{schedules_are_read}
-use Rattle.dm_drill.specs.Counts.{totals_of}
-use Rattle.dm_drill.specs.Drilled.{DrillIsWhole, DrillWears, text_shown}
-use Rattle.dm_drill.specs.Schedules.{CanStand, schedule_text}
-use Rattle.dm_drill.specs.Summary.{summary}
-use Rattle.dm_words.specs.DrillWords.{OwnIsWithin}
-use Rattle.dm_commands.proofs.OwnDrilling.{own_for, some_machines}
-use Rattle.dm_commands.specs.Inputs.{SaysBoot, most_schedule}
-use Rattle.dm_commands.specs.Outside.{Outside}
-use Rattle.dm_commands.specs.OwnDrills.{OwnSays, ShownSays, directives_for, own_report}
 use Rattle.dm_program.proofs.DrillsChecked.{each_drawn, from_nothing}
 use Rattle.dm_program.proofs.Runs.Fits.{directives_fit}
-use Rattle.dm_program.specs.OwnLaws.{OwnDrillsAreFor, OwnDrillsCheck, SchedulesAreTaken}
-use Rattle.dm_program.specs.Printed.{by_rule}
-use Rattle.dm_onekernel.proofs.Lawful.{few_machines}
 
 -- a process is at home on one of so many machines, and its number is one that a schedule can have
 abbrev IsNamed : ℕ → Pid → Type 0

@@ -1,11 +1,7 @@
 -- Pieces that are written one behind another.
-use Rattle.std.proofs.Common.{◌≡◌, ℕ, zero, suc, ◌+◌, ◌<◌, ◌≤◌, List, [], ◌∷◌, ◌++◌, length, take, drop, map, get_or, refl, ap, sym, subst, ◌∙◌, arith, append_assoc}
-use Rattle.std.proofs.lemmas.List.{append-nil, length-append, take-append-le}
-use Rattle.std.specs.List.{concat}
+use Rattle.dm_program.proofs.Names.{◌≡◌, ℕ, zero, suc, ◌+◌, ◌<◌, ◌≤◌, List, [], ◌∷◌, ◌++◌, length, take, drop, map, get_or, refl, ap, sym, subst, ◌∙◌, arith, append_assoc, append-nil, length-append, take-append-le, concat, RoseOrFull}
+use Rattle.dm_program.proofs.Names.{appended, appended_twice, IsCutShort}
 use Rattle.std.specs.declared.option.Option.{Option}
-use Rattle.dm_outside.specs.Outside.{RoseOrFull, appended}
-use Rattle.dm_run.proofs.Writing.{appended_twice}
-use Rattle.dm_run.specs.Appended.{IsCutShort}
 
 -- one piece more
 pub taken_more : {X : Type 0} (f : X → List ℕ) (xs : List X) (i : ℕ) (d : X) → i < length xs → concat (map f (take (i + 1) xs)) ≡ concat (map f (take i xs)) ++ f (get_or xs i d)

@@ -1,22 +1,11 @@
 -- What `run` writes, `check` finds good.
-use Rattle.dm_commands.proofs.Names.{◌≡◌, ◌⊎◌, inl, inr, ℕ, Bool, true, false, List, [], ◌∷◌, ◌++◌, length, ap, sym, subst, ◌∙◌, All, All-cons, All-head, All-nil, All-tail, Option, Some, Boot, Directive, appended, good_verdict, Status, HasTrace, AcceptsFiles}
-use Rattle.dm_commands.proofs.Names.{SaysBoot, SaysDirectives, IsWant}
-use Rattle.std.proofs.lemmas.List.{append-nil}
-use Rattle.dm_schedule.specs.declared.Step.{Step}
+use Rattle.dm_program.proofs.Names.{◌≡◌, ◌⊎◌, inl, inr, ℕ, Bool, true, false, List, [], ◌∷◌, ◌++◌, length, ap, sym, subst, ◌∙◌, Option, Some, All, All-cons, All-head, All-nil, All-tail, Boot, Directive, appended, good_verdict, Status}
+use Rattle.dm_program.proofs.Names.{HasTrace, AcceptsFiles, SaysBoot, SaysDirectives, IsWant, append-nil, Step, Line, IsGood, IsWhole, RunWears, beginnings_open, runs_ended, HasHome, IsHome, verdict, NeverFails, Outside, Accepts, GivesGood}
+use Rattle.dm_program.proofs.Names.{IsKept, RunsCheck, SaysItIs, WornRunsCheck, by_rule, traced_by_rule}
 use Rattle.dm_schedule.specs.declared.Step.TheVariants as step
 use Rattle.dm_schedule.specs.declared.Directive.TheVariants as directive
-use Rattle.dm_line.specs.declared.line.Line.{Line}
-use Rattle.dm_law_mirror.specs.Run.{IsGood}
-use Rattle.dm_run.specs.Printed.{IsWhole, RunWears}
-use Rattle.dm_law_runs.proofs.Traces.Runs.{beginnings_open, runs_ended}
-use Rattle.dm_law_runs.specs.Traces.Laws.{HasHome, IsHome}
-use Rattle.dm_law_runs.specs.Traces.Verdict.{verdict}
-use Rattle.dm_commands.proofs.Schedules as schedules
-use Rattle.dm_commands.specs.Outside.{NeverFails, Outside}
+use Rattle.dm_front.proofs.Schedules as schedules
 use Rattle.dm_program.proofs.Runs.Fits.{directives_fit}
-use Rattle.dm_program.specs.Decided.{Accepts, GivesGood}
-use Rattle.dm_program.specs.Laws.{IsKept, RunsCheck, SaysItIs, WornRunsCheck}
-use Rattle.dm_program.specs.Printed.{by_rule}
 
 step_home : (machines : ℕ) (e : Step) → schedules.IsHome machines e → IsHome machines e
 step_home machines (step.Turn m) h = h
@@ -51,9 +40,9 @@ kept_trace boot trace run check b bytes k says written =
 
 -- so what is good by the verdict is said to be good
 said_of : (boot schedule trace : List ℕ) (run check : Outside) (s : Status) (b : Boot) (ds : List Directive) (bytes : List ℕ) (groups : ℕ) (ended : Bool) (k : IsKept boot trace run check) → AcceptsFiles (Some k.files) boot schedule b ds
-    → run.after ≡ appended run.before bytes → verdict b bytes ≡ good_verdict groups ended → Accepts boot trace check s → NeverFails check → SaysItIs ended check s ⊎ IsWant s
+    → run.after ≡ appended run.before bytes → verdict b bytes ≡ good_verdict groups ended → Accepts traced_by_rule boot trace check s → NeverFails check → SaysItIs ended check s ⊎ IsWant s
 said_of boot schedule trace run check s b ds bytes groups ended k accepts written good promise never =
-    let gives : GivesGood k.later boot trace groups ended = record { system = b; bytes = bytes; has = kept_trace boot trace run check b bytes k accepts.says_boot written; good = good } in
+    let gives : GivesGood traced_by_rule k.later boot trace groups ended = record { system = b; bytes = bytes; has = kept_trace boot trace run check b bytes k accepts.says_boot written; good = good } in
     elim (promise k.later groups ended k.at_check gives never) [
       | inl said ↦ inl (record { groups = groups; done = said.0; said = said.1 })
       | inr want ↦ inr want

@@ -1,15 +1,6 @@
 -- What `run` has printed at its end is sound.
-use Rattle.dm_commands.proofs.Names.{◌≡◌, inl, inr, ℕ, List, length, Boot, Directive}
-use Rattle.dm_line.specs.declared.line.Line.{Line}
-use Rattle.dm_message.specs.declared.MsgId.{MsgId}
-use Rattle.dm_law_rule.specs.Point.{first_point}
-use Rattle.dm_law_moves.proofs.Open.Moves.{leads_of}
-use Rattle.dm_law_mirror.proofs.Leading.{good_leads}
-use Rattle.dm_law_mirror.proofs.Names.{joined, stands_once_always}
-use Rattle.dm_run.specs.Printed.{IsWhole}
+use Rattle.dm_program.proofs.Names.{◌≡◌, inl, inr, ℕ, List, length, Boot, Directive, Line, MsgId, first_point, leads_of, good_leads, joined, stands_once_always, IsWhole, by_rule, IsSound, PrintsSoundly, RunsAreSound}
 use Rattle.dm_program.proofs.Runs.Fits.{directives_fit}
-use Rattle.dm_program.specs.Printed.{by_rule}
-use Rattle.dm_program.specs.Theorem.{IsSound, PrintsSoundly, RunsAreSound}
 
 pub runs_are_sound : RunsAreSound
 runs_are_sound boot schedule o says = elim says [

@@ -9,7 +9,8 @@ use Rattle.dm_words.specs.declared.words.WordsError.{WordsError}
 use Rattle.dm_words.specs.declared.words.WordsError.TheVariants as why
 use Rattle.dm_words.specs.Said.{no_pieces, said_pieces, unread_pieces}
 use Rattle.dm_words.specs.Words.{request_of}
-use Rattle.dm_commands.specs.Firsts.{SaysFirst}
+use Rattle.dm_program.specs.Commands.{promised}
+use Rattle.dm_program.specs.Rule.{of_rule}
 
 -- with none: where a word isn't Unicode that is said
 abbrev pub none_pieces : WordsError → List (List ℕ)
@@ -23,5 +24,5 @@ given_pieces (Err reason) s = none_pieces reason
 
 -- and behind that of a file that is refused
 abbrev pub GivenFirst : Result (Vec (String Global) Global) WordsError → Option (List ℕ → Option (List ℕ)) → Status → List ℕ → Type 0
-GivenFirst (Ok words) files s said = SaysFirst (request_of (map string_bytes words.items)) files s said
+GivenFirst (Ok words) files s said = (promised of_rule (request_of (map string_bytes words.items))).first files s said
 GivenFirst (Err reason) files s said = said ≡ []

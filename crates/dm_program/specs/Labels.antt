@@ -13,10 +13,11 @@ use Rattle.dm_labels.specs.Printed.{text_of_labels}
 use Rattle.dm_ending.specs.declared.status.Status.{Status}
 use Rattle.dm_ending.specs.declared.status.Status.TheVariants.{Done, Worn}
 use Rattle.dm_ending.specs.Status.{IsWant}
-use Rattle.dm_commands.specs.LabelChecks.{good_labels_line, most_labels}
-use Rattle.dm_commands.specs.Outside.{NeverFails, Outside}
-use Rattle.dm_commands.specs.Runs.{RunSays, SaysRun}
-use Rattle.dm_program.specs.Decided.{LabelsAreDecided}
+use Rattle.dm_cmd_check.specs.LabelChecks.{good_labels_line, most_labels}
+use Rattle.dm_front.specs.Outside.{NeverFails, Outside}
+use Rattle.dm_cmd_run.specs.Runs.{RunSays}
+use Rattle.dm_front.specs.Runs.{SaysRun}
+use Rattle.dm_cmd_check.specs.Promises.{LabelsAreDecided}
 use Rattle.dm_program.specs.Printed.{by_rule}
 
 -- the labels among the lines that a run has written, from nothing on, are those that are checked, a line each, with the same boot file

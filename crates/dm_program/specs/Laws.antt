@@ -19,12 +19,14 @@ use Rattle.dm_ending.specs.declared.status.Status.{Status}
 use Rattle.dm_ending.specs.declared.status.Status.TheVariants.{Done, Worn}
 use Rattle.dm_words.specs.DrillWords.{IsWithin}
 use Rattle.dm_ending.specs.Status.{IsWant}
-use Rattle.dm_commands.specs.Checks.{good_line, most_trace}
-use Rattle.dm_commands.specs.Drills.{DrilledSays, SaysDrill, directives_of_drill}
-use Rattle.dm_commands.specs.Outside.{NeverFails, Outside}
-use Rattle.dm_commands.specs.Runs.{RunSays, SaysRun}
-use Rattle.dm_program.specs.Decided.{Accepts}
+use Rattle.dm_cmd_check.specs.Checks.{good_line, most_trace}
+use Rattle.dm_cmd_count.specs.Drills.{DrilledSays, SaysDrill, directives_of_drill}
+use Rattle.dm_front.specs.Outside.{NeverFails, Outside}
+use Rattle.dm_cmd_run.specs.Runs.{RunSays}
+use Rattle.dm_front.specs.Runs.{SaysRun}
+use Rattle.dm_cmd_check.specs.Promises.{Accepts}
 use Rattle.dm_program.specs.Printed.{by_rule}
+use Rattle.dm_program.specs.Rule.{traced_by_rule}
 
 -- what a run has written, from nothing on, is the trace that is checked, with the same boot file
 pub record IsKept (boot trace : List ℕ) (run check : Outside) : Type 0 where
@@ -46,12 +48,12 @@ pub record SaysItIs (ended : Bool) (o : Outside) (s : Status) : Type 0 where
 -- the trace of a run that came to its end is good, ended
 abbrev pub RunsCheck : Type 0
 RunsCheck =
-    (boot schedule trace : List ℕ) (run check : Outside) (s : Status) → SaysRun (RunSays by_rule) boot schedule run Done → IsKept boot trace run check → Accepts boot trace check s → NeverFails check → SaysItIs true check s ⊎ IsWant s
+    (boot schedule trace : List ℕ) (run check : Outside) (s : Status) → SaysRun (RunSays by_rule) boot schedule run Done → IsKept boot trace run check → Accepts traced_by_rule boot trace check s → NeverFails check → SaysItIs true check s ⊎ IsWant s
 
 -- that of a run that stopped at two machines that count as many messages as they may is good, open
 abbrev pub WornRunsCheck : Type 0
 WornRunsCheck =
-    (boot schedule trace : List ℕ) (run check : Outside) (from to : ℕ) (s : Status) → SaysRun (RunSays by_rule) boot schedule run (Worn from to) → IsKept boot trace run check → Accepts boot trace check s → NeverFails check
+    (boot schedule trace : List ℕ) (run check : Outside) (from to : ℕ) (s : Status) → SaysRun (RunSays by_rule) boot schedule run (Worn from to) → IsKept boot trace run check → Accepts traced_by_rule boot trace check s → NeverFails check
     → SaysItIs false check s ⊎ IsWant s
 
 -- what a drill printed of its groups is good, open; its summary stands behind it

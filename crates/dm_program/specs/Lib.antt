@@ -1,9 +1,10 @@
 pub mod Printed
+pub mod Commands
 pub mod Rule
-pub mod Decided
 pub mod Given
 pub mod Program
 pub mod Laws
 pub mod OwnLaws
 pub mod Labels
 pub mod Theorem
+pub mod SoFar

@@ -14,9 +14,9 @@ use Rattle.dm_check.specs.Judge.{Open}
 use Rattle.dm_law_runs.specs.Traces.Verdict.{verdict}
 use Rattle.dm_ending.specs.declared.status.Status.TheVariants.{Done, Worn}
 use Rattle.dm_words.specs.DrillWords.{OwnIsWithin}
-use Rattle.dm_commands.specs.Inputs.{AcceptsFiles, SaysBoot}
-use Rattle.dm_commands.specs.Outside.{Outside}
-use Rattle.dm_commands.specs.OwnDrills.{OwnSays, SaysOwn, directives_for}
+use Rattle.dm_front.specs.Inputs.{AcceptsFiles, SaysBoot}
+use Rattle.dm_front.specs.Outside.{Outside}
+use Rattle.dm_cmd_count.specs.OwnDrills.{OwnSays, SaysOwn, directives_for}
 use Rattle.dm_program.specs.Printed.{by_rule}
 
 -- it is so of the system that the boot file says

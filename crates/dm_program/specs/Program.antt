@@ -15,20 +15,19 @@ use Rattle.dm_words.specs.declared.words.WordsError.{WordsError}
 use Rattle.dm_words.specs.Refused.{status_of_no}
 use Rattle.dm_words.specs.Request.{Request}
 use Rattle.dm_words.specs.Words.{request_of}
-use Rattle.dm_commands.specs.Asked.{Nothing}
-use Rattle.dm_commands.specs.Commands.{CommandMeets, named_in}
-use Rattle.dm_commands.specs.Meets.{MeetsOutside}
-use Rattle.dm_commands.specs.Outside.{Around, SinkAround, Untouched, outside}
-use Rattle.dm_program.specs.Decided.{IsDecided}
+use Rattle.dm_front.specs.Asked.{Nothing}
+use Rattle.dm_front.specs.Meets.{MeetsOutside}
+use Rattle.dm_front.specs.Outside.{Around, SinkAround, Untouched, outside}
+use Rattle.dm_program.specs.Commands.{promised}
 use Rattle.dm_program.specs.Given.{GivenFirst, given_pieces}
 use Rattle.dm_program.specs.Rule.{of_rule}
 
 -- what was asked for was done, as the rule has it; the files decide what it comes to; and so it is with the shelf and the sink,
 -- whatever was asked for
 pub record ProgramMeets {F K : Type 0} (r : Option Request) (a : Around F K) (world : Option World) (s : Status) : Type 0 where
-  pub does : CommandMeets of_rule r a world s
-  pub decided : IsDecided r (outside a world) s
-  pub met : MeetsOutside (named_in r) a s
+  pub does : (promised of_rule r).meets a world s
+  pub decided : (promised of_rule r).decided (outside a world) s
+  pub met : MeetsOutside (promised of_rule r).names a s
 
 -- there are no words: nothing is read or written, and there is no world
 pub record HasNoWords {F K : Type 0} (reason : WordsError) (a : Around F K) (world : Option World) (s : Status) : Type 0 where

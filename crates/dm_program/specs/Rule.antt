@@ -8,9 +8,9 @@ use Rattle.dm_explore.specs.Answers.{answer}
 use Rattle.dm_law_runs.specs.Choices.ByRule.{AnsweredByRule}
 use Rattle.dm_look.specs.Looked.{Holding}
 use Rattle.dm_law_runs.specs.Letters.Letters.{HoldsLetters}
-use Rattle.dm_commands.specs.Checks.{TraceMeans}
-use Rattle.dm_commands.specs.Commands.{Terms}
-use Rattle.dm_commands.specs.Explores.{AnswerMeans}
+use Rattle.dm_cmd_check.specs.Checks.{TraceMeans}
+use Rattle.dm_program.specs.Commands.{Terms}
+use Rattle.dm_cmd_explore.specs.Explores.{AnswerMeans}
 use Rattle.dm_program.specs.Printed.{by_rule}
 
 -- of a trace: its verdict, that it is the text of good lines, and what was due in a line of it

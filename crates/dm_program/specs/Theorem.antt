@@ -23,9 +23,10 @@ use Rattle.dm_law_mirror.specs.Run.{joined}
 use Rattle.dm_text.specs.Text.{text_of_ends, text_of_lines}
 use Rattle.dm_outside.specs.Outside.{appended}
 use Rattle.dm_ending.specs.declared.status.Status.TheVariants.{Done}
-use Rattle.dm_commands.specs.Inputs.{AcceptsFiles}
-use Rattle.dm_commands.specs.Outside.{Outside}
-use Rattle.dm_commands.specs.Runs.{RunSays, SaysRun}
+use Rattle.dm_front.specs.Inputs.{AcceptsFiles}
+use Rattle.dm_front.specs.Outside.{Outside}
+use Rattle.dm_cmd_run.specs.Runs.{RunSays}
+use Rattle.dm_front.specs.Runs.{SaysRun}
 use Rattle.dm_program.specs.Printed.{IsOver, by_rule}
 
 -- groups of lines for the directives of a schedule, and where the run of the kernel without machines stands behind them

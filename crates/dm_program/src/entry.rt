@@ -5,8 +5,9 @@ ghost use Rattle.std.specs.Iterator.Runs.{WholeRun};
 ghost use Rattle.dm_memory.specs.Args.{ArgsLackMemory};
 ghost use Rattle.dm_program.specs.Given.{GivenFirst};
 ghost use Rattle.dm_program.specs.Program.{Finishes, GivenMeets};
-ghost use Rattle.dm_commands.specs.Explores.{RefusesTaken};
-ghost use Rattle.dm_commands.specs.Outside.{around, shelf_around, sink_around};
+ghost use Rattle.dm_front.specs.Outside.{around, shelf_around, sink_around};
+ghost use Rattle.dm_program.specs.Commands.{promised};
+ghost use Rattle.dm_program.specs.Rule.{of_rule};
 ghost use Rattle.dm_words.specs.Words.{IsTaken, request_of};
 
 use crate::ending::end;
@@ -72,7 +73,7 @@ pub fn run_given<F: Shelf, K: Sink>(
         (around (shelf_around F.asked F.told F.faults F.last_failed shelf.old shelf.new)
         (sink_around K.told K.faults K.last_failed out.old out.new)) world.new result }
     ensures said { GivenFirst given.now (F.told shelf.old) result said.new.items }
-    ensures refused { IfOk given.now (λ words. result ≡ Status.Usage → IsTaken (map string_bytes words.items) → RefusesTaken (F.told shelf.old) (request_of (map string_bytes words.items))) }
+    ensures refused { IfOk given.now (λ words. result ≡ Status.Usage → IsTaken (map string_bytes words.items) → (promised of_rule (request_of (map string_bytes words.items))).refuses (F.told shelf.old)) }
 {
     *world = None;
     *said = Vec::new(alloc);

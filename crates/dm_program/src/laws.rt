@@ -2,12 +2,19 @@
 ghost use Rattle.dm_program.specs.Laws.{DrillsCheck, DrillsMayStart, RunsCheck, TracesAreFor, WornRunsCheck};
 ghost use Rattle.dm_program.specs.OwnLaws.{OwnDrillsAreFor, OwnDrillsCheck, SchedulesAreTaken};
 ghost use Rattle.dm_program.specs.Labels.{RunLabelsCheck};
+ghost use Rattle.dm_program.specs.SoFar.{AllRunsAreSound};
 ghost use Rattle.dm_program.specs.Theorem.{RunsAreSound};
 
 /// Whatever the files say, a run that ends with status 0 wrote the text of groups of lines, one for each directive, whose labels are a run
 /// of one kernel without machines, where no message is received twice and each stands exactly once, and then that of where the run stands.
 pub fn runs_are_sound()
     ensures { RunsAreSound }
+{}
+
+/// However a run ends: with status 4, 5 or 9 it wrote the text of groups for the first directives, whole or begun, of which the same holds. At
+/// any other status nothing was written.
+pub fn all_runs_are_sound()
+    ensures { AllRunsAreSound }
 {}
 
 /// The trace of a run that came to its end is good, ended: `check` says so, unless memory lacks.

@@ -6,6 +6,7 @@ mod ending;
 mod entry;
 pub mod laws;
 mod program;
+mod request;
 
 pub use dm_ending::status::{Input, Status, status_line, status_text};
 pub use dm_memory::of_args::args;

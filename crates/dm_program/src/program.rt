@@ -1,14 +1,15 @@
 //! The program: what its words ask for is done, as the rule has it.
 ghost use Rattle.std.specs.Prelude.{◌≡◌, map};
 ghost use Rattle.dm_words.specs.Words.{IsTaken, request_of};
-ghost use Rattle.dm_commands.specs.Explores.{RefusesTaken};
-ghost use Rattle.dm_commands.specs.Firsts.{SaysFirst};
-ghost use Rattle.dm_commands.specs.Outside.{around, shelf_around, sink_around};
+ghost use Rattle.dm_front.specs.Outside.{around, shelf_around, sink_around};
+ghost use Rattle.dm_program.specs.Commands.{promised};
 ghost use Rattle.dm_program.specs.Program.{ProgramMeets};
+ghost use Rattle.dm_program.specs.Rule.{of_rule};
 
-use dm_commands::words::do_words;
+use crate::request::do_request;
 use dm_ending::status::Status;
 use dm_outside::{Shelf, Sink};
+use dm_words::words::read_words;
 use dm_world::World;
 use std::alloc::Global;
 
@@ -25,8 +26,13 @@ pub fn run_program<F: Shelf, K: Sink>(
     ensures meets { ProgramMeets (request_of (map (λ w. w.now) words.now))
         (around (shelf_around F.asked F.told F.faults F.last_failed shelf.old shelf.new)
         (sink_around K.told K.faults K.last_failed out.old out.new)) world.new result }
-    ensures said { SaysFirst (request_of (map (λ w. w.now) words.now)) (F.told shelf.old) result said.new.items }
-    ensures refused { result ≡ Status.Usage → IsTaken (map (λ w. w.now) words.now) → RefusesTaken (F.told shelf.old) (request_of (map (λ w. w.now) words.now)) }
+    ensures said { (promised of_rule (request_of (map (λ w. w.now) words.now))).first (F.told shelf.old) result said.new.items }
+    ensures refused { result ≡ Status.Usage → IsTaken (map (λ w. w.now) words.now) → (promised of_rule (request_of (map (λ w. w.now) words.now))).refuses (F.told shelf.old) }
 {
-    do_words(alloc, words, shelf, out, world, said)
+    *world = None;
+    *said = Vec::new(alloc);
+    match read_words(alloc, words) {
+        Ok(request) => do_request(alloc, request, shelf, out, world, said),
+        Err(no) => no.status(),
+    }
 }

@@ -2,7 +2,7 @@
 use Rattle.dm_program.proofs.Runs.Names.{◌≡◌, ℕ, zero, suc, Bool, true, false, List, ◌∷◌, refl, if◌then◌else◌, Option, None, Directive, Next, all_of, todo_of, cursor_of}
 use Rattle.dm_schedule.specs.declared.Directive.TheVariants as directive
 use Rattle.dm_line.specs.declared.pass.Pass.TheVariants as pass
-use Rattle.dm_line.specs.Todo.{Seen, at_rest, following, next_directive, next_pass, or}
+use Rattle.dm_program.proofs.Names.{Seen, at_rest, following, next_directive, next_pass, or}
 
 -- of a pass of which nothing is left nothing comes, whether its directive is over or not
 none_first : (over : Bool) (o : Option Next) → o ≡ or (if over then None else None) o

@@ -2,9 +2,7 @@
 use Rattle.dm_program.proofs.Runs.Names.{◌≡◌, ℕ, true, List, [], length, drop, drop_all, refl, ap, ◌∙◌, sym, subst, inl, inr, arith, All, None, Some, Boot, IsValid, Step, Directive, EndLine, Line, Next, Todo, first_point, all_of, IsWorn, ends_settled, is_at_rest}
 use Rattle.dm_program.proofs.Runs.Names.{at_rest_always, ends_at_rest, ends_quiet, Says, WornOut, todo_of, world_next_step, next_step, end_is_said, next_is_said, quiet_is_said, world_state, World, Stands, WorldState, IsFor, Carried, Carries, IsDone, WorldPlace, WorldWears}
 use Rattle.dm_program.proofs.Runs.Names.{by_world, EndsWell, IsGood, Lasts, RulePlace, RuleWears, WearsAfter}
-use Rattle.dm_law_moves.proofs.Settles.Rests.EndsRested.{ends_rested_so}
-use Rattle.dm_law_moves.proofs.Settles.Rests.EndsStill.{ends_still}
-use Rattle.dm_program.specs.Printed.{by_rule}
+use Rattle.dm_program.proofs.Names.{ends_rested_so, ends_still, by_rule}
 use Rattle.dm_program.proofs.Runs.Decisions.{Wearing, ends_once}
 use Rattle.dm_program.proofs.Runs.Stands.{IsLed, goes_there, comes_there, is_led}
 

@@ -1,6 +1,6 @@
 -- The rule decides whether a run comes to its end, and between which machines it is worn.
 use Rattle.dm_program.proofs.Runs.Names.{◌≡◌, ◌≤◌, ℕ, zero, suc, ◌⊎◌, inl, inr, List, [], ◌∷◌, length, ap, ◌∙◌, sym, arith, None, Some, Boot, Line, Two, Todo, Next, IsRun, Point, Spelled, group_of, IsWorn, worn_in, shorter_begins, next_step}
-use Rattle.dm_law_runs.proofs.Traces.Full.{group_over}
+use Rattle.dm_program.proofs.Names.{group_over}
 
 -- a run stands before a directive that would be worn
 pub record Wearing (b : Boot) (end : Point) (left : Todo) (from to : ℕ) : Type 0 where

@@ -1,6 +1,6 @@
 -- What a run that was worn says, by the rule.
 use Rattle.dm_program.proofs.Runs.Names.{◌≡◌, ℕ, List, Boot, Directive, Line, all_of, first_point, WearsAfter}
-use Rattle.dm_program.specs.Printed.{by_rule}
+use Rattle.dm_program.proofs.Names.{by_rule}
 use Rattle.dm_run.specs.Printed as run
 use Rattle.dm_program.proofs.Runs.Decisions.{Wearing, wears_once}
 

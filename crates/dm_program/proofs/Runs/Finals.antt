@@ -5,13 +5,8 @@ use Rattle.dm_program.proofs.Runs.Names.{IsLawfulKnown, IsLawfulState, Arrival, 
 use Rattle.dm_program.proofs.Runs.Names.{WorldState, of_known}
 use Rattle.dm_line.specs.declared.end_line.EndLine.TheVariants as end
 use Rattle.dm_line.specs.declared.end_line.Standing.TheVariants as standing
-use Rattle.dm_onekernel.specs.declared.label.Why.{Why}
-use Rattle.std.specs.Prelude.{◌&&◌, option_map}
-use Rattle.dm_resident.specs.Lawful.{IsLawfulResident}
-use Rattle.dm_resident.specs.Residents.{queue_of}
-use Rattle.dm_resident.specs.declared.Resident.{Resident}
+use Rattle.dm_program.proofs.Names.{Why, ◌&&◌, option_map, IsLawfulResident, queue_of, Resident, is_process_coming}
 use Rattle.dm_resident.specs.declared.Resident.TheVariants as resident
-use Rattle.dm_migrate.specs.Arrival.{is_process_coming}
 use Rattle.dm_world.specs.Ends as ends
 use Rattle.dm_program.proofs.Runs.Restarted.{NamedHides, ResidentHides, SlotHides, TableHides, restarted_hides}
 

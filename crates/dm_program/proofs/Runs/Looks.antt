@@ -5,14 +5,8 @@ use Rattle.dm_program.proofs.Runs.ByRule.{over}
 use Rattle.dm_program.proofs.Runs.Decisions.{Wearing, ends_once, no_more}
 use Rattle.dm_program.proofs.Runs.Stands.{IsLed, is_led}
 use Rattle.std.proofs.Common.{append-nil}
-use Rattle.dm_look.proofs.Carried.{Seen, Sees}
-use Rattle.dm_look.specs.Groups.{IsAt, WearsBefore}
-use Rattle.dm_look.specs.Letters.{Letter}
-use Rattle.dm_look.specs.Looked.{held_by_world}
-use Rattle.dm_law_runs.proofs.Letters.Said.{letters_are_said}
-use Rattle.dm_law_runs.specs.Letters.Letters.{HoldsLetters}
-use Rattle.dm_program.specs.Printed.{WearsAfter, by_rule}
-use Rattle.dm_program.specs.Rule.{held_by_rule}
+use Rattle.dm_program.proofs.Names.{Sees, IsAt, WearsBefore, Letter, held_by_world, letters_are_said, HoldsLetters, WearsAfter, by_rule, held_by_rule}
+use Rattle.dm_look.proofs.Carried.{Seen}
 use Rattle.dm_program.proofs.Runs.Endings.{wears_after}
 
 seen_led : (b : Boot) (ds : List Directive) (gs : List (List Line)) (p : WorldPlace) → IsValid b → IsLed b ds p.way gs p.state → Seen by_world by_rule held_by_world held_by_rule b ds gs p

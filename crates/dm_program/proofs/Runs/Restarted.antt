@@ -2,20 +2,10 @@
 use Rattle.dm_program.proofs.Runs.Names.{◌≡◌, ℕ, zero, suc, ◌/◌, ◌%◌, ◌==◌, Bool, true, false, List, [], ◌∷◌, length, refl, sym, ap, subst, ⊤, if◌then◌else◌, All, All-nil, All-cons, Option, None, Some, Result, Ok, Err, Link, Process, PacketError}
 use Rattle.dm_program.proofs.Runs.Names.{Field, ◌>>=◌, both, number, LinkParts, addr, channel, flags, len_from, link, link_of_parts, held_if, bind_ok, ok_is, StateBytesError, Shell, Front, by_rule, only_shell, front, read_shell, shell}
 use Rattle.dm_program.proofs.Runs.Names.{shell_of_bytes, shell_with, mask, read_slots, slots, table, Arrival, restarted, revived, revived_from}
-use Rattle.std.specs.Prelude.{◌++◌, option_map}
-use Rattle.dm_link.specs.Names.{pid_eq}
-use Rattle.dm_onekernel.specs.Boot.{switchboard}
+use Rattle.dm_program.proofs.Names.{◌++◌, option_map, pid_eq, switchboard, Counts, by_rules, only_read, server_front, Board, Named, board, name_behind, named_behind, names, names_behind, read_names, board_of_bytes, Managing}
+use Rattle.dm_program.proofs.Names.{manager_of_bytes, moved_on, Resident, is_process_coming, moved_board, moved_manager, server_of_bytes}
 use Rattle.dm_packet.specs.declared.PacketError.TheVariants as bad
-use Rattle.dm_statebytes.specs.Servers.{Counts, by_rules, only_read, server_front}
-use Rattle.dm_switchboard.specs.Board.{Board, Named}
-use Rattle.dm_switchboard.specs.Packed.{board, name_behind, named_behind, names, names_behind, read_names}
-use Rattle.dm_switchboard.specs.Packed.{board_of_bytes}
-use Rattle.dm_procman.specs.Managing.{Managing}
-use Rattle.dm_procman.specs.Packed.{manager_of_bytes}
-use Rattle.dm_resident.specs.Residents.{moved as moved_on}
-use Rattle.dm_resident.specs.declared.Resident.{Resident}
 use Rattle.dm_resident.specs.declared.Resident.TheVariants as resident
-use Rattle.dm_migrate.specs.Arrival.{is_process_coming, moved_board, moved_manager, server_of_bytes}
 
 -- what a slot holds, if anything, leads to no kernel
 abbrev pub SlotHides : Option Link → Type 0

@@ -5,7 +5,7 @@ use Rattle.dm_program.proofs.Runs.Names.{Place, Packets, Turns, End, Falls, IsSe
 use Rattle.dm_program.proofs.Runs.Names.{world_step, Stands, machines_stay, next_fits, undelivered_said, mail_is_said, IsFor, cursor_of}
 use Rattle.dm_schedule.specs.declared.Step.TheVariants as step
 use Rattle.dm_schedule.specs.declared.Directive.TheVariants as directive
-use Rattle.dm_line.specs.declared.pass.Pass.TheVariants.{Rest}
+use Rattle.dm_program.proofs.Names.{Rest}
 use Rattle.dm_law_moves.specs.Settles.Left as settle
 use Rattle.dm_law_always.proofs.Sizes.Always.{few_machines}
 

@@ -2,7 +2,7 @@
 use Rattle.dm_program.proofs.Runs.Names.{◌≡◌, ◌≤◌, ◌<◌, ℕ, ◌+◌, ◌*◌, ◌^◌, List, [], ◌∷◌, ◌++◌, length, drop, get_or, slice_get, add-one, drop-cons, refl, ap, ◌∙◌, sym, subst, ◌⊎◌, inl, inr, arith, All, All-get_or, get_or_from_slice_get, slice_get_within, None, Some}
 use Rattle.dm_program.proofs.Runs.Names.{Boot, IsValid, Step, Directive, Line, Next, Todo, all_of, IsStep, Point, first_point, Cursor, todo_of, world_has_mail, world_is_quiet, world_next_step, world_undelivered, WorldState, Said, Says, WornOut, world_step}
 use Rattle.dm_program.proofs.Runs.Names.{GoesOn, RunGoes, RunStands, next_fits, run_begins, run_goes_on, counts, IsFor, cursor_of, ComesNext, Does, Led, NoneLeft, starts, turns, does, first_way, Way}
-use Rattle.dm_world.specs.Next.{world_seen}
+use Rattle.dm_program.proofs.Names.{world_seen}
 use Rattle.dm_program.proofs.Runs.Begun.{begun_next}
 use Rattle.dm_program.proofs.Runs.Fits.{directives_fit}
 use Rattle.dm_program.proofs.Runs.Settling.{IsGroup, ahead, falls_ahead, few_ahead}

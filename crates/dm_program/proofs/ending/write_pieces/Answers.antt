@@ -1,5 +1,5 @@
 -- A piece more, or the one that was cut short.
-use Rattle.std.proofs.Common.{inr, ◌∙◌}
+use Rattle.dm_program.proofs.Names.{inr, ◌∙◌}
 use Rattle.dm_program.proofs.Pieces.{cut_in, one_more, rose_from}
 use Rattle.dm_program.proofs.ending.write_pieces.Goals as goal
 

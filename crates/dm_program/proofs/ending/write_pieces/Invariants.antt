@@ -1,7 +1,5 @@
 -- What was written so far.
-use Rattle.std.proofs.Common.{◌≡◌, map, take}
-use Rattle.std.specs.List.{concat}
-use Rattle.dm_outside.specs.Outside.{appended}
+use Rattle.dm_program.proofs.Names.{◌≡◌, map, take, concat, appended}
 use Rattle.dm_program.proofs.ending.write_pieces.Given as goal
 
 abbrev pub invariant-loop-piece : goal.invariant-loop-piece

@@ -1,14 +1,6 @@
-use Rattle.dm_commands.proofs.Names.{rules, ◌≡◌, List, ℕ, map, refl, subst, sym, request_of, NoMemory, Usage}
-use Rattle.std.specs.Prelude.{string_bytes}
-use Rattle.dm_words.proofs.Ranges.{asked_fits}
-use Rattle.dm_words.specs.Words.{IsTaken}
-use Rattle.dm_program.proofs.ByRule.{program_lacks}
+use Rattle.dm_program.proofs.Names.{rules, ◌≡◌, List, ℕ, refl, subst, sym, map, string_bytes, request_of, IsTaken, NoMemory, Usage, asked_fits, promised, of_rule, around, shelf_around, sink_around, ProgramMeets}
+use Rattle.dm_program.proofs.ByRule.{program_lacks, silent_lack}
 use Rattle.dm_program.proofs.NoWords.{no_words}
-use Rattle.dm_commands.proofs.Saying.{silent_lack}
-use Rattle.dm_commands.specs.Explores.{RefusesTaken}
-use Rattle.dm_commands.specs.Firsts.{SaysFirst}
-use Rattle.dm_commands.specs.Outside.{around, shelf_around, sink_around}
-use Rattle.dm_program.specs.Program.{ProgramMeets}
 use Rattle.dm_program.proofs.entry.run_given.Goals as goal
 
 pub returns-in-Ok-texts-clause-meets : goal.returns-in-Ok-texts-clause-meets
@@ -25,10 +17,10 @@ returns-in-Err-texts-clause-meets g c =
 pub returns-in-Ok-texts-clause-said : goal.returns-in-Ok-texts-clause-said
 returns-in-Ok-texts-clause-said g c =
     let e : map (λ w. w.now) c.as_slice-in-Ok-texts.result.now ≡ map string_bytes c.in-Ok.words.items = search rules in
-    rw c.in-Ok.is (subst (λ (w : List (List ℕ)). SaysFirst (request_of w) (g.F.Shelf.told c.args.shelf.now) c.run_program.result c.run_program.new.said.items) e c.run_program.ensures.said)
+    rw c.in-Ok.is (subst (λ (w : List (List ℕ)). (promised of_rule (request_of w)).first (g.F.Shelf.told c.args.shelf.now) c.run_program.result c.run_program.new.said.items) e c.run_program.ensures.said)
 
 pub returns-in-Err-texts-clause-said : goal.returns-in-Err-texts-clause-said
-returns-in-Err-texts-clause-said g c = rw c.in-Ok.is (silent_lack (request_of (map string_bytes c.in-Ok.words.items)) (g.F.Shelf.told c.args.shelf.now) c.in-Err-texts.no _ c.new.ensures.items)
+returns-in-Err-texts-clause-said g c = rw c.in-Ok.is (silent_lack (request_of (map string_bytes c.in-Ok.words.items)) (g.F.Shelf.told c.args.shelf.now) c.in-Err-texts.no _ (asked_fits (map string_bytes c.in-Ok.words.items)) c.new.ensures.items)
 
 pub returns-in-Err-clause-said : goal.returns-in-Err-clause-said
 returns-in-Err-clause-said g c = rw c.in-Err.is c.new.ensures.items
@@ -36,7 +28,7 @@ returns-in-Err-clause-said g c = rw c.in-Err.is c.new.ensures.items
 pub returns-in-Ok-texts-clause-refused : goal.returns-in-Ok-texts-clause-refused
 returns-in-Ok-texts-clause-refused g c =
     let e : map (λ w. w.now) c.as_slice-in-Ok-texts.result.now ≡ map string_bytes c.in-Ok.words.items = search rules in
-    rw c.in-Ok.is (λ usage taken. subst (λ (w : List (List ℕ)). RefusesTaken (g.F.Shelf.told c.args.shelf.now) (request_of w)) e (c.run_program.ensures.refused usage (subst IsTaken (sym e) taken)))
+    rw c.in-Ok.is (λ usage taken. subst (λ (w : List (List ℕ)). (promised of_rule (request_of w)).refuses (g.F.Shelf.told c.args.shelf.now)) e (c.run_program.ensures.refused usage (subst IsTaken (sym e) taken)))
 
 pub returns-in-Err-texts-clause-refused : goal.returns-in-Err-texts-clause-refused
 returns-in-Err-texts-clause-refused g c = rw c.in-Ok.is (λ usage taken. let f : NoMemory c.in-Err-texts.no ≡ Usage = usage in absurd cc)

@@ -1,4 +1,4 @@
-use Rattle.std.proofs.Common.{◌≡◌, map, take, string_bytes}
+use Rattle.dm_program.proofs.Names.{◌≡◌, map, take, string_bytes}
 use Rattle.dm_program.proofs.entry.texts.Given as goal
 
 abbrev pub invariant-loop-word : goal.invariant-loop-word

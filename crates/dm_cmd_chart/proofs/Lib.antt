@@ -1,0 +1,3 @@
+pub mod Names
+mod Charting
+pub mod ChartKept

@@ -1,0 +1,17 @@
+use Rattle.dm_cmd_chart.proofs.Names.{refl, None, Status, never_meets, runs_meet, silent_files, ChartSays, by_world}
+use Rattle.dm_cmd_chart.proofs.chart.chart_part.Goals as goal
+
+pub returns-in-Ok : goal.returns-in-Ok
+returns-in-Ok g c = record {
+  meets = record {
+    as_run = runs_meet (ChartSays c.args.part by_world) c.args.boot.now c.args.schedule.now _ None c.chart.result c.in-Ok.inputs.boot c.in-Ok.inputs.directives.items c.in-Ok.ensures.accepts c.in-Ok.ensures.valid c.in-Ok.ensures.each c.in-Ok.ensures.shelf c.chart.ensures.says (λ i h. h) c.chart.ensures.sink;
+    no_world = refl;
+  };
+  said = silent_files (λ (s : Status). ChartSays c.args.part by_world c.in-Ok.inputs.boot c.in-Ok.inputs.directives.items (g.K.Sink.told c.args.out.now) (g.K.Sink.told c.chart.new.out) None s) _ _ _ c.chart.result _ (λ number place h. h) (λ line why h. h) c.chart.ensures.says c.in-Ok.ensures.said;
+}
+
+pub returns-in-Err : goal.returns-in-Err
+returns-in-Err g c = record {
+  meets = record { as_run = never_meets (ChartSays c.args.part by_world) c.args.boot.now c.args.schedule.now _ None c.in-Err.status c.in-Err.ensures.none c.in-Err.ensures.shelf refl refl; no_world = refl };
+  said = c.in-Err.ensures.said;
+}

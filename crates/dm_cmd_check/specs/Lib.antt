@@ -1,0 +1,5 @@
+pub mod Checks
+pub mod LabelChecks
+pub mod Judges
+pub mod ByWorld
+pub mod Promises

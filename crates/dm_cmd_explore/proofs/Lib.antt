@@ -1,0 +1,4 @@
+pub mod Names
+mod Written
+pub mod Exploring
+pub mod ExploreKept

@@ -1,0 +1,2 @@
+pub mod Explores
+pub mod ByWorld

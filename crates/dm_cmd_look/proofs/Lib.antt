@@ -1,0 +1,3 @@
+pub mod Names
+mod Looking
+pub mod LookKept

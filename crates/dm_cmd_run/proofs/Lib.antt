@@ -1,0 +1,3 @@
+pub mod Names
+mod RunSaid
+pub mod RunKept

@@ -1,0 +1,4 @@
+//! The command `run`: it runs a schedule on the system of a boot file, and writes what happens.
+#![tactic(auto)]
+
+pub mod run;

@@ -1,7 +1,0 @@
-use Rattle.dm_commands.proofs.Names.{◌∙◌, ap}
-use Rattle.dm_commands.proofs.Saying.{schedule_said}
-use Rattle.dm_commands.specs.Firsts.{first_line}
-use Rattle.dm_commands.proofs.first.first_of_line.Goals as goal
-
-pub returns : goal.returns
-returns c = c.first_line.ensures ∙ ap first_line (c.schedule_text.ensures ∙ schedule_said c.args.bytes.now c.args.machines c.args.line c.args.fault c.in_ok-told.told c.requires c.in_ok-told.ensures)

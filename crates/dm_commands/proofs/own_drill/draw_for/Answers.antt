@@ -1,5 +1,0 @@
-use Rattle.dm_commands.proofs.Drills.{all_for}
-use Rattle.dm_commands.proofs.own_drill.draw_for.Goals as goal
-
-pub returns-clause-each : goal.returns-clause-each
-returns-clause-each c = all_for c.args.machines c.in_ok-directives.directives.items c.in_ok-directives.ensures.each
