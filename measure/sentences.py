@@ -1,13 +1,15 @@
 #!/usr/bin/env python3
-"""sentences.py [FILE ..]: sentences of more than 60 words and table cells of more than 40 in pages that everybody reads.
+"""sentences.py [FILE ..]: sentences of more than 50 words, table cells of more than 40, and pages whose sentences have more than 20 on an average.
 
-Without files: README.md, docs/PROMISES.md and docs/DEFINITIONS.md of the repository above this file. A sentence ends at a full
+Without files: README.md and all pages of docs/ of the repository above this file, but those of NOT_YET. A sentence ends at a full
 stop, a colon before a list, or the end of its paragraph, item or cell; what stands in backticks counts as one word, and what
-stands between ``` or begins a paragraph four places further in isn't read. Prints each with its place; the status is 1 if there is one."""
-import os, re, sys
+stands between ``` or begins a paragraph four places further in isn't read. The average is of the sentences outside tables. Prints
+each with its place; the status is 1 if there is one."""
+import glob, os, re, sys
 
-SENTENCE, CELL = 60, 40
-PAGES = ("README.md", "docs/PROMISES.md", "docs/DEFINITIONS.md")
+SENTENCE, CELL, MEAN = 50, 40, 20
+# pages that are longer-winded than that: they are passed over until they are rewritten, and then go from this list
+NOT_YET = ("docs/DEFINITIONS.md",)
 
 
 def words(text):
@@ -51,18 +53,28 @@ def blocks(lines):
 
 
 def faults(file):
+    counts = []
     for line, text, is_cell in blocks(open(file, encoding="utf-8").read().split("\n")):
         if is_cell and len(words(text)) > CELL:
             yield f"{file}:{line}: a cell of {len(words(text))} words: {text[:100]}"
         for sentence in [] if is_cell else sentences(text):
-            if len(words(sentence)) > SENTENCE:
-                yield f"{file}:{line}: a sentence of {len(words(sentence))} words: {sentence.strip()[:100]}"
+            counts.append(len(words(sentence)))
+            if counts[-1] > SENTENCE:
+                yield f"{file}:{line}: a sentence of {counts[-1]} words: {sentence.strip()[:100]}"
+    if sum(counts) > MEAN * len(counts):
+        yield f"{file}: {sum(counts)} words in {len(counts)} sentences, more than {MEAN} on an average"
+
+
+def pages(top):
+    """The pages that everybody reads, but those that are passed over."""
+    found = [f"{top}/README.md", *sorted(glob.glob(f"{top}/docs/*.md"))]
+    return [os.path.relpath(p) for p in found if os.path.relpath(p, top) not in NOT_YET]
 
 
 def main(files):
     top = os.path.normpath(os.path.join(os.path.dirname(os.path.abspath(__file__)), ".."))
-    found = [x for f in files or [os.path.relpath(f"{top}/{p}") for p in PAGES] for x in faults(f)]
-    print(*found or [f"no sentence of more than {SENTENCE} words, no cell of more than {CELL}"], sep="\n")
+    found = [x for f in files or pages(top) for x in faults(f)]
+    print(*found or [f"no sentence of more than {SENTENCE} words, no cell of more than {CELL}, no page of more than {MEAN} a sentence"], sep="\n")
     return bool(found)
 
 
