@@ -1,15 +1,12 @@
 #!/usr/bin/env python3
 """sentences.py [FILE ..]: sentences of more than 50 words, table cells of more than 40, and pages whose sentences have more than 20 on an average.
 
-Without files: README.md and all pages of docs/ of the repository above this file, but those of NOT_YET. A sentence ends at a full
-stop, a colon before a list, or the end of its paragraph, item or cell; what stands in backticks counts as one word, and what
+Without files: README.md and all pages of docs/ of the repository above this file. A sentence ends at a full stop, a colon before a list, or the end of its paragraph, item or cell; what stands in backticks counts as one word, and what
 stands between ``` or begins a paragraph four places further in isn't read. The average is of the sentences outside tables. Prints
 each with its place; the status is 1 if there is one."""
 import glob, os, re, sys
 
 SENTENCE, CELL, MEAN = 50, 40, 20
-# pages that are longer-winded than that: they are passed over until they are rewritten, and then go from this list
-NOT_YET = ()
 
 
 def words(text):
@@ -66,9 +63,8 @@ def faults(file):
 
 
 def pages(top):
-    """The pages that everybody reads, but those that are passed over."""
-    found = [f"{top}/README.md", *sorted(glob.glob(f"{top}/docs/*.md"))]
-    return [os.path.relpath(p) for p in found if os.path.relpath(p, top) not in NOT_YET]
+    """The pages that everybody reads."""
+    return [os.path.relpath(p) for p in (f"{top}/README.md", *sorted(glob.glob(f"{top}/docs/*.md")))]
 
 
 def main(files):
