@@ -1,9 +1,10 @@
 #!/usr/bin/env python3
 """sentences.py [FILE ..]: sentences of more than 50 words, table cells of more than 40, and pages whose sentences have more than 20 on an average.
 
-Without files: README.md and all pages of docs/ of the repository above this file. A sentence ends at a full stop, a colon before a list, or the end of its paragraph, item or cell; what stands in backticks counts as one word, and what
-stands between ``` or begins a paragraph four places further in isn't read. The average is of the sentences outside tables. Prints
-each with its place; the status is 1 if there is one."""
+Without files: README.md and all pages of docs/ of the repository above this file. A sentence ends at a full stop, a colon before a
+list, or the end of its paragraph, item or cell; what stands in backticks counts as one word, and what stands between ``` or begins a
+paragraph four places further in isn't read. The average is of the sentences outside tables. Prints each with its place; the status is
+1 if there is one."""
 import glob, os, re, sys
 
 SENTENCE, CELL, MEAN = 50, 40, 20
