@@ -65,7 +65,7 @@ impl Node {
         requires streams { HasStreams self.old }
         ensures { OnOk result (Gave self.new (so_far wires.old lines.old.items) (so_far wires.new lines.new.items) (arrives (node_state self.old) from (Data seq message))) }
     {
-        let arrived = self.receive(from, seq, message);
+        let arrived = self.receive(from, seq, message)?;
         self.take_in(from, seq, arrived, lines)?;
         self.acknowledge(from, wires, lines)
     }

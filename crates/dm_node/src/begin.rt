@@ -55,7 +55,7 @@ fn fresh_receivers(alloc: Global) -> Result<Vec<Receiver<Parcel<Message>>>, NoMe
 {
     let mut receivers = Vec::new(alloc);
     for _machine in 0..MACHINES {
-        push(&mut receivers, Receiver::new(alloc)?)?;
+        push(&mut receivers, Receiver::new(alloc))?;
     }
     Ok(receivers)
 }

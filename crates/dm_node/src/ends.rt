@@ -1,5 +1,5 @@
 //! The ends of a machine's streams, as steps of the machine.
-ghost use Rattle.std.specs.Prelude.{◌≡◌, ◌<◌, ◌≤◌, ◌+◌, ◌-◌, ◌^◌, IfSome, IsSome, option_map};
+ghost use Rattle.std.specs.Prelude.{◌≡◌, ◌<◌, ◌≤◌, ◌+◌, ◌-◌, ◌^◌, IfOk, IfSome, IsSome, OnOk, option_map};
 ghost use Rattle.dm_message.specs.Lawful.{IsLawfulMessage};
 ghost use Rattle.dm_stream.specs.Sending.{due, outstanding, with_acked, with_sent};
 ghost use Rattle.dm_stream.specs.Receiving.{after_arrival, after_next, arrival, next};
@@ -12,7 +12,7 @@ use crate::node::Node;
 use crate::stop::Stop;
 use crate::streams;
 use dm_link::MACHINES;
-use dm_memory::Parcel;
+use dm_memory::{NoMemory, Parcel};
 use dm_message::Message;
 use dm_stream::{Arrived, GiveError, WINDOW};
 
@@ -111,14 +111,14 @@ impl Node {
         from: u8,
         seq: u32,
         message: Parcel<Message>,
-    ) -> Arrived<Parcel<Message>>
+    ) -> Result<Arrived<Parcel<Message>>, NoMemory>
         requires streams { HasStreams self.old }
         requires from { from < MACHINES }
         requires in_window { seq < ((node_state self.old).receivers from).count + WINDOW }
         requires numbered { seq < 2 ^ 32 - 1 }
-        ensures value { result ≡ arrival ((node_state self.old).receivers from) seq message }
-        ensures state { node_state self.new ≡ with_receiver (node_state self.old) from (after_arrival ((node_state self.old).receivers from) seq message) }
-        ensures streams { HasStreams self.new }
+        ensures value { IfOk result (λ a. a ≡ arrival ((node_state self.old).receivers from) seq message) }
+        ensures state { OnOk result (node_state self.new ≡ with_receiver (node_state self.old) from (after_arrival ((node_state self.old).receivers from) seq message)) }
+        ensures streams { OnOk result (HasStreams self.new) }
     {
         streams::arrive(&mut self.receivers, from, seq, message)
     }

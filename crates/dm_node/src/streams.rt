@@ -1,5 +1,5 @@
 //! The ends of a machine's streams, by machine.
-ghost use Rattle.std.specs.Prelude.{◌≡◌, ◌<◌, ◌≤◌, ◌+◌, ◌-◌, ◌^◌, ◌↔◌, IfErr, IfSome, IsSome, OnOk, Err, length, option_map, ℕ};
+ghost use Rattle.std.specs.Prelude.{◌≡◌, ◌<◌, ◌≤◌, ◌+◌, ◌-◌, ◌^◌, ◌↔◌, IfErr, IfOk, IfSome, IsSome, OnOk, Err, length, option_map, ℕ};
 ghost use Rattle.std.specs.List.{All};
 ghost use Rattle.dm_message.specs.Lawful.{IsLawfulMessage};
 ghost use Rattle.dm_stream.specs.Sending.{due, given_count, outstanding, with_acked, with_given, with_sent};
@@ -10,7 +10,7 @@ ghost use Rattle.dm_node.specs.Acts.{count_out, none_waits};
 ghost use Rattle.dm_node.specs.Meets.{receiver_at, sender_at};
 ghost use Rattle.dm_line.specs.Sets.{at_machine};
 
-use dm_memory::Parcel;
+use dm_memory::{NoMemory, Parcel};
 use dm_message::Message;
 use dm_stream::{Arrived, GiveError, Receiver, Sender, WINDOW};
 
@@ -111,13 +111,13 @@ pub fn arrive(
     from: u8,
     seq: u32,
     message: Parcel<Message>,
-) -> Arrived<Parcel<Message>>
+) -> Result<Arrived<Parcel<Message>>, NoMemory>
     requires within { from < length receivers.old }
     requires in_window { seq < (receiver_at receivers.old from).count + WINDOW }
     requires numbered { seq < 2 ^ 32 - 1 }
-    ensures value { result ≡ arrival (receiver_at receivers.old from) seq message }
-    ensures after { (c : ℕ) → receiver_at receivers.new c ≡
-        at_machine (receiver_at receivers.old) from (after_arrival (receiver_at receivers.old from) seq message) c }
+    ensures value { IfOk result (λ a. a ≡ arrival (receiver_at receivers.old from) seq message) }
+    ensures after { OnOk result ((c : ℕ) → receiver_at receivers.new c ≡
+        at_machine (receiver_at receivers.old) from (after_arrival (receiver_at receivers.old from) seq message) c) }
     ensures length { length receivers.new ≡ length receivers.old }
 {
     receivers[usize::from(from)].arrive(seq, message)

@@ -2,6 +2,7 @@
 use Rattle.std.specs.Prelude.{◌≡◌, ℕ, ◌+◌, ◌-◌, ◌<◌, nat_lt, ◌==◌, if◌then◌else◌, List, [], ◌∷◌, ◌++◌, length, drop, replicate, slice_get, slice_set, Option, Some, None, is_some, count_by, refl}
 use Rattle.std.specs.Option.{option_flatten}
 use Rattle.std.specs.Coded.{Coded, code_by, coded×, coded_list, coded_option, coded_ℕ}
+use Rattle.circular_buffer.specs.Buffer.{Buffer}
 use Rattle.dm_stream.specs.declared.receiver.Arrived.{Arrived}
 use Rattle.dm_stream.specs.declared.receiver.Arrived.TheVariants.{Taken, Old, Early}
 
@@ -15,6 +16,21 @@ module _ {M : Type 0} where
   abbrev pub receiving_code : Coded M → Coded (Receiving M)
   receiving_code c =
       code_by (ℕ × List (Option M)) (coded× coded_ℕ (coded_list (coded_option c))) (λ r. (r.count, r.kept)) (λ p. record { count = p.0; kept = p.1 }) (λ _. refl)
+
+  -- the places of a receiver's ring; where there is no ring yet all are empty
+  abbrev pub places_of : Option (Buffer (Option M)) → List (Option M)
+  places_of None = replicate 8 None
+  places_of (Some ring) = ring.items
+
+  -- how many it has
+  abbrev pub size_of : Option (Buffer (Option M)) → ℕ
+  size_of None = 8
+  size_of (Some ring) = ring.capacity
+
+  -- they are 8, all of them in use
+  pub record IsRing (early : Option (Buffer (Option M))) : Type 0 where
+    pub size : size_of early ≡ 8
+    pub places : length (places_of early) ≡ 8
 
   -- nothing is taken, and nothing is kept
   abbrev pub fresh_receiving : Receiving M

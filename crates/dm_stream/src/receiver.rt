@@ -1,7 +1,7 @@
 //! The receiving side of a stream.
-ghost use Rattle.std.specs.Prelude.{IfOk, OnSome, length, nat_lt, replicate, ◌+◌, ◌<◌, ◌≡◌};
+ghost use Rattle.std.specs.Prelude.{IfOk, OnErr, OnOk, OnSome, is_some, length, nat_lt, replicate, ◌+◌, ◌<◌, ◌≡◌};
 ghost use Rattle.circular_buffer.specs.Buffer.{buffer};
-ghost use Rattle.dm_stream.specs.Receiving.{kept_once, once};
+ghost use Rattle.dm_stream.specs.Receiving.{IsRing, kept_once, moved_up, once, place, places_of};
 
 use crate::sender::WINDOW;
 use circular_buffer::HeapCircularBuffer;
@@ -24,24 +24,25 @@ pub enum Arrived<M> {
     Early,
 }
 
-/// Takes messages in the order of their numbers, from 0, and keeps those that come early.
+/// Takes messages in the order of their numbers, from 0, and keeps those that come early. It takes no memory until one does.
 #[derive(Drop)]
 pub struct Receiver<M> {
+    alloc: Global,
     count: u32,
-    early: HeapCircularBuffer<Option<M>>,
+    early: Option<HeapCircularBuffer<Option<M>>>,
 }
 
 impl<M> Model for Receiver<M> {
     ghost use Rattle.std.specs.Prelude.{◌≡◌};
-    ghost use Rattle.dm_stream.specs.Receiving.{IsReceiving, Receiving, receiving_code};
+    ghost use Rattle.dm_stream.specs.Receiving.{IsReceiving, Receiving, places_of, receiving_code, size_of};
 
     ghost Value = { Receiving M };
 
     ghost coded = { receiving_code M.code };
 
-    ghost view = { λ r. record { count = r.count; kept = r.early.items } };
+    ghost view = { λ r. record { count = r.count; kept = places_of r.early } };
 
-    ghost invariant = { λ r. IsReceiving (record { count = r.count; kept = r.early.items }) × (r.early.capacity ≡ 8) };
+    ghost invariant = { λ r. IsReceiving (record { count = r.count; kept = places_of r.early }) × (size_of r.early ≡ 8) };
 }
 
 /// A ring with all its places empty.
@@ -79,17 +80,69 @@ fn keep_once<M: Drop>(ring: &mut HeapCircularBuffer<Option<M>>, place: usize, me
     put_once(ring.get_mut(place).unwrap(), message);
 }
 
+/// Keeps a message at this place, unless one is kept there already; where there is no ring yet, in a new one.
+fn keep_early<M: Drop>(
+    alloc: Global,
+    early: &mut Option<HeapCircularBuffer<Option<M>>>,
+    place: usize,
+    message: M,
+) -> Result<(), NoMemory>
+    requires ring { IsRing early.old }
+    requires within { place < 8 }
+    ensures kept { OnOk result (places_of early.new ≡ kept_once (places_of early.old) place message) }
+    ensures ring { IsRing early.new }
+    ensures err { OnErr result (early.new ≡ early.old) }
+{
+    match early {
+        Some(ring) => keep_once(ring, place, message),
+        None => {
+            let mut ring = empty_ring(alloc)?;
+            keep_once(&mut ring, place, message);
+            *early = Some(ring);
+        }
+    }
+    Ok(())
+}
+
+/// Whether something is kept at the first place.
+fn is_first_kept<M>(early: &Option<HeapCircularBuffer<Option<M>>>) -> bool
+    requires { IsRing early.now }
+    ensures { result ≡ is_some (place (places_of early.now) 0) }
+{
+    match early {
+        Some(ring) => match ring.front() {
+            Some(Some(_)) => true,
+            _ => false,
+        },
+        None => false,
+    }
+}
+
+/// Moves the places up by one; what was kept at the first is handed back.
+fn move_up<M: Drop>(early: &mut Option<HeapCircularBuffer<Option<M>>>) -> Option<M>
+    requires { IsRing early.old }
+    ensures value { result ≡ place (places_of early.old) 0 }
+    ensures after { places_of early.new ≡ moved_up (places_of early.old) }
+    ensures ring { IsRing early.new }
+{
+    match early {
+        Some(ring) => ring.push_back(None).flatten(),
+        None => None,
+    }
+}
+
 impl<M: Drop> Receiver<M> {
     ghost use Rattle.dm_stream.specs.Receiving.{advanced, after_arrival, after_next, arrival, fresh_receiving, kept_count, next};
 
     /// Nothing is taken, and nothing is kept.
-    pub fn new(alloc: Global) -> Result<Receiver<M>, NoMemory>
-        ensures { IfOk result (λ r. r ≡ fresh_receiving) }
+    pub fn new(alloc: Global) -> Receiver<M>
+        ensures { result ≡ fresh_receiving }
     {
-        Ok(Receiver {
+        Receiver {
+            alloc,
             count: 0,
-            early: empty_ring(alloc)?,
-        })
+            early: None,
+        }
     }
 
     /// How many messages were taken: the number of the next.
@@ -100,21 +153,22 @@ impl<M: Drop> Receiver<M> {
     }
 
     /// A message has arrived: the next is taken, a lower number is old, a higher one is kept unless it is kept already.
-    pub fn arrive(&mut self, number: u32, message: M) -> Arrived<M>
+    pub fn arrive(&mut self, number: u32, message: M) -> Result<Arrived<M>, NoMemory>
         requires in_window { number < self.old.count + WINDOW }
         requires numbered { number < u32.MAX }
-        ensures value { result ≡ arrival self.old number message }
-        ensures after { self.new ≡ after_arrival self.old number message }
+        ensures value { IfOk result (λ a. a ≡ arrival self.old number message) }
+        ensures after { OnOk result (self.new ≡ after_arrival self.old number message) }
+        ensures err { OnErr result (self.new ≡ self.old) }
     {
         if number == self.count {
             let _ = self.advance();
-            return Arrived::Taken(message);
+            return Ok(Arrived::Taken(message));
         }
         if was_taken(number, self.count) {
-            return Arrived::Old;
+            return Ok(Arrived::Old);
         }
-        keep_once(&mut self.early, (number - self.count) as usize, message);
-        Arrived::Early
+        keep_early(self.alloc, &mut self.early, (number - self.count) as usize, message)?;
+        Ok(Arrived::Early)
     }
 
     /// Takes the kept message whose number is the count, if there is one. After a message was taken, ask until there is none.
@@ -123,10 +177,7 @@ impl<M: Drop> Receiver<M> {
         ensures after { self.new ≡ after_next self.old }
         ensures fewer { OnSome result (kept_count self.new < kept_count self.old) }
     {
-        match self.early.front() {
-            Some(Some(_)) => self.advance(),
-            _ => None,
-        }
+        if is_first_kept(&self.early) { self.advance() } else { None }
     }
 
     /// Counts one more message, and moves the places up by one. What was kept under that number is handed back.
@@ -136,6 +187,6 @@ impl<M: Drop> Receiver<M> {
         ensures after { self.new ≡ advanced self.old }
     {
         self.count += 1;
-        self.early.push_back(None).flatten()
+        move_up(&mut self.early)
     }
 }
