@@ -29,6 +29,7 @@ pub record Keeps (old new : Search) : Type 0 where
   pub boot : new.world.boot ≡ old.world.boot
   pub bounds : new.bounds ≡ old.bounds
   pub tried : new.tried ≡ old.tried
+  pub limit : new.limit ≡ old.limit
 
 -- it stands there still, or at another place
 pub stands_on : (old new : Search) (p u : Place) → Keeps old new → IsSearch old p → IsPast new.past u.done → HasGone old.world.boot u → (new.there ≡ true → IsRunning new.world) → (new.there ≡ true → world_state new.world ≡ u.state) → IsSearch new u
@@ -39,7 +40,7 @@ stands_on old new p u k h past gone running there = record {
   gone = subst (λ b. HasGone b u) (sym k.boot) gone;
   running = running;
   there = there;
-  few = subst (λ n. n ≤ new.bounds.now.most) (sym k.tried) (subst (λ m. old.tried ≤ m) (λ i. ((sym k.bounds) i).now.most) h.few);
+  few = subst (λ n. n ≤ new.limit) (sym k.tried) (subst (λ m. old.tried ≤ m) (sym k.limit) h.few);
 }
 
 -- lines that are kept change nothing
@@ -50,15 +51,15 @@ runs_still w v ls same r = subst IsRunning (sym same) (record { world = record {
 pub arrived : (old new : Search) (p : Place) → Keeps old new → new.past ≡ old.past → IsRunning new.world → ((u : Place) → IsPast old.past u.done → HasGone old.world.boot u → world_state new.world ≡ u.state) → IsSearch old p → IsSearch new p
 arrived old new p k past running there h = stands_on old new p p k h (subst (λ x. IsPast x p.done) (sym past) h.past) h.gone (λ t. running) (λ t. there p h.past h.gone)
 
-pub leads : (s : Search) (left : ℕ) → IsSearching s left → Leads s.world.boot s.past
-leads s left h = record { place = h.place; noted_ = h.search.past; gone = h.search.gone; few = let short = h.short in omega arith }
+pub leads : (s : Search) (left within : ℕ) → IsSearching s left within → Leads s.world.boot s.past
+leads s left within h = record { place = h.place; noted_ = h.search.past; gone = h.search.gone; few = let short = h.short in omega arith }
 
 -- one more directive
 pub stepped : (old new : Search) (p : Place) (e : Step) (lines : List Line) (w : World) (kept : Vec Line Global) (machine : ℕ) (away : Bool) → IsSearch old p → old.there ≡ true → Does old.world.boot (world_state old.world) e lines (world_state w) → IsRunning w → w.boot ≡ old.world.boot
     → machine ≡ machine_of (world_sight (length old.world.boot.machines) (world_state old.world)) e → away ≡ is_away (world_sight (length old.world.boot.machines) (world_state old.world)) e
-    → new.world ≡ record w { lines = kept } → new.bounds ≡ old.bounds → new.tried ≡ old.tried → new.there ≡ true → new.last.items ≡ lines
+    → new.world ≡ record w { lines = kept } → new.bounds ≡ old.bounds → new.tried ≡ old.tried → new.limit ≡ old.limit → new.there ≡ true → new.last.items ≡ lines
     → IsPast new.past (record { step = e; machine = machine; away = away; lines = lines } ∷ p.done) → Stepped old new p e
-stepped old new p e lines w kept machine away h there does running boot is_machine is_away_ world bounds tried there_then last past =
+stepped old new p e lines w kept machine away h there does running boot is_machine is_away_ world bounds tried limit there_then last past =
     let b = old.world.boot in
     let at = h.there there in
     let d : Does b p.state e lines (world_state w) = subst (λ v. Does b v e lines (world_state w)) at does in
@@ -71,7 +72,7 @@ stepped old new p e lines w kept machine away h there does running boot is_machi
       place = u;
       after = after_does b p e lines (world_state w) d;
       taken = inl (lines, world_state w, d);
-      search = stands_on old new p u (record { boot = stays; bounds = bounds; tried = tried }) h (subst (λ (x : Did). IsPast new.past (x ∷ p.done)) noted_ past) (gone_on b p e lines (world_state w) h.gone d)
+      search = stands_on old new p u (record { boot = stays; bounds = bounds; tried = tried; limit = limit }) h (subst (λ (x : Did). IsPast new.past (x ∷ p.done)) noted_ past) (gone_on b p e lines (world_state w) h.gone d)
           (λ t. runs_still w new.world kept world running) (λ t. ap world_state world);
       fresh = record { there = there_then; last = last };
     }
@@ -109,8 +110,8 @@ gone_back old new p u e k there_then past gone after h =
     stands_on old new u p k h (past (did old.world.boot p e f.said.lines) p.done (subst (IsPast old.past) f.done h.past)) gone (λ t. absurd (false≢true (sym there_then ∙ t))) (λ t. absurd (false≢true (sym there_then ∙ t)))
 
 -- from a place with room for one directive more
-pub searching_on : (old new : Search) (p : Place) (e : Step) (left : ℕ) → length p.done + suc left ≤ 64 → (s : Stepped old new p e) → IsSearching new left
-searching_on old new p e left short s =
+pub searching_on : (old new : Search) (p : Place) (e : Step) (left within : ℕ) → length p.done + suc left ≤ 64 → (s : Stepped old new p e) → IsSearching new left within
+searching_on old new p e left within short s =
     let longer = one_longer old.world.boot p s.place e s.after in
     record { place = s.place; search = s.search; short = omega arith; fresh = λ none. s.fresh }
 

@@ -15,8 +15,8 @@ use Rattle.dm_explore.specs.Finds.{finds_in}
 use Rattle.dm_explore.specs.Noted.{IsPast}
 use Rattle.dm_explore.specs.Offered.{sight_of}
 use Rattle.dm_explore.specs.Past.{Did, last_lines, steps_of}
-use Rattle.dm_explore.specs.Places.{Place, first_place, tried_behind}
-use Rattle.dm_explore.specs.Search.{Comes, HasGone, IsFresh, IsSearch, IsSearching, LooksBehind, TakenBehind, asks, led, limits, room}
+use Rattle.dm_explore.specs.Places.{Place, first_place}
+use Rattle.dm_explore.specs.Search.{Comes, HasGone, IsFresh, IsSearch, IsSearching, LooksAt, asks, led, limits, room}
 use Rattle.dm_explore.specs.Sights.{world_sight}
 use Rattle.dm_explore.proofs.Ways.{noted_steps, step_noted}
 
@@ -27,18 +27,17 @@ one_place s p u h i =
     let both : Some p ≡ Some u = sym h.gone.led_ ∙ ap (led s.world.boot (first_place s.world.boot)) steps ∙ i.gone.led_ in
     cc
 
-pub fresh_here : (s : Search) (p : Place) → IsSearching s 0 → IsSearch s p → IsFresh s p
-fresh_here s p h i = subst (IsFresh s) (one_place s h.place p h.search i) (h.fresh refl)
+pub fresh_here : (s : Search) (p : Place) → IsSearching s 0 0 → IsSearch s p → IsFresh s p
+fresh_here s p h i = subst (IsFresh s) (one_place s h.place p h.search i) (h.fresh (omega arith))
 
 -- no more may be tried
-pub enough_here : (s : Search) (p : Place) → s.tried ≡ s.bounds.now.most → LooksBehind s s p 0 the.Enough
-unfolding tried_behind
+pub enough_here : (s : Search) (p : Place) → s.tried ≡ s.limit → LooksAt s s p the.Enough
 enough_here s p same =
     let none : room s ≡ 0 = omega arith in
-    record { comes = ap (λ n. look_through (asks s) n (p ∷ [])) none; taken = λ wrong. absurd (let no : the.Enough ≡ the.Nothing = wrong in cc) }
+    record { comes = ap (λ n. look_through (asks s) n (p ∷ [])) none }
 
 -- what the code finds is what is asked there
-pub asked_here : (s : Search) (p : Place) (last : List Line) (found : Bool) → last ≡ s.last.items → IsSearching s 0 → IsSearch s p
+pub asked_here : (s : Search) (p : Place) (last : List Line) (found : Bool) → last ≡ s.last.items → IsSearching s 0 0 → IsSearch s p
     → ((ds : List Did) → IsPast s.past ds → found ≡ finds_in (length s.world.boot.machines) (sight_of s.world) (question_said s.question) last ds) → found ≡ asks s p
 asked_here s p last found same h i is =
     let f = fresh_here s p h i in
@@ -50,18 +49,17 @@ asked_here s p last found same h i is =
 abbrev pub with_one_more : Search → Vec ℕ Global → Search
 with_one_more s page = record s { tried = s.tried + 1; page = page }
 
-pub counted : (s : Search) (page : Vec ℕ Global) (p : Place) → IsSearch s p → s.tried ≢ s.bounds.now.most → IsSearch (with_one_more s page) p
+pub counted : (s : Search) (page : Vec ℕ Global) (p : Place) → IsSearch s p → s.tried ≢ s.limit → IsSearch (with_one_more s page) p
 counted s page p h other = record { valid = h.valid; asked = h.asked; past = h.past; gone = h.gone; running = h.running; there = h.there; few = let few = h.few in omega arith }
 
-pub one_less : (s : Search) (page : Vec ℕ Global) (p : Place) → IsSearch s p → s.tried ≢ s.bounds.now.most → room s ≡ suc (room (with_one_more s page))
+pub one_less : (s : Search) (page : Vec ℕ Global) (p : Place) → IsSearch s p → s.tried ≢ s.limit → room s ≡ suc (room (with_one_more s page))
 one_less s page p h other = let few = h.few in omega arith
 
 -- and it is found there, or isn't
-pub judged : (old new : Search) (p : Place) → IsSearch new p → HasGone old.world.boot p → room old ≡ suc (room new) → (found : Bool) → found ≡ asks old p → (found ≡ true → LooksBehind old new p 0 the.Found) × (found ≡ false → LooksBehind old new p 0 the.Nothing)
-unfolding tried_behind TakenBehind
-judged old new p h gone more found is =
+pub judged : (old new : Search) (p : Place) → IsSearch new p → room old ≡ suc (room new) → (found : Bool) → found ≡ asks old p → (found ≡ true → LooksAt old new p the.Found) × (found ≡ false → LooksAt old new p the.Nothing)
+judged old new p h more found is =
     let step : look_through (asks old) (room old) (p ∷ []) ≡ cond found (FoundAt p) (Nothing (room new)) =
     ap (λ n. look_through (asks old) n (p ∷ [])) more ∙ ap (λ t. cond t (FoundAt p) (Nothing (room new))) (sym is) in (
-      λ t. record { comes = (p, step ∙ ap (λ t. cond t (FoundAt p) (Nothing (room new))) t, h); taken = λ wrong. absurd (let no : the.Found ≡ the.Nothing = wrong in cc) },
-      λ f. record { comes = (step ∙ ap (λ t. cond t (FoundAt p) (Nothing (room new))) f, h); taken = λ none. gone },
+      λ t. record { comes = (p, step ∙ ap (λ t. cond t (FoundAt p) (Nothing (room new))) t, h) },
+      λ f. record { comes = (step ∙ ap (λ t. cond t (FoundAt p) (Nothing (room new))) f, h) },
     )

@@ -3,10 +3,11 @@ use Rattle.std.specs.Prelude.{◌≡◌, ◌<◌, ◌≤◌, ◌+◌, ◌-◌, �
 use Rattle.std.specs.List.{All, cons_option, flat_map}
 use Rattle.std.specs.declared.option.Option.{Option}
 use Rattle.std.specs.declared.option.Option.TheVariants.{None, Some}
-use Rattle.std.proofs.Common.{refl, sym, ap, ◌∙◌, subst, inl, inr, arith, length-append}
+use Rattle.std.proofs.Common.{refl, sym, ap, ap₂, ◌∙◌, subst, inl, inr, arith, length-append}
 use Rattle.std.proofs.lemmas.Bool.{cases_eq, cases_lt}
 use Rattle.std.proofs.lemmas.List.Elements.{All-cons, All-head, All-nil, All-tail, All-weaker}
 use Rattle.dm_onekernel.specs.declared.boot.Boot.{Boot}
+use Rattle.dm_explore.specs.declared.search.Looked.{Looked as TheLooked}
 use Rattle.dm_explore.specs.declared.search.Looked.TheVariants as the
 use Rattle.dm_explore.specs.declared.search.Search.{Search}
 use Rattle.dm_explore.specs.Answers.{Answer, Enough, Found, FoundAt, Looked, NoneWithin, Nothing, Undecided, and_then, answer, by_length, look_through}
@@ -14,10 +15,11 @@ use Rattle.dm_explore.specs.Asked.{Bounds, Question, bounds_said, question_said}
 use Rattle.dm_explore.specs.Finds.{finds}
 use Rattle.dm_explore.specs.Past.{steps_of}
 use Rattle.dm_explore.specs.Places.{Place, after_step, first_place, open_at, opened, tried, tried_behind}
-use Rattle.dm_explore.specs.Search.{AllWent, Comes, FoundGone, GoesBy, HasGone, IsSearch, IsSearching, LooksBehind, Taken, TakenBehind, asks, limits, room}
-use Rattle.dm_explore.proofs.Searching.{behind_comes, behind_taken, goes_by_both}
+use Rattle.dm_explore.specs.Search.{AllWent, Comes, FoundGone, GoesBy, HasGone, IsSearch, IsSearching, LooksBehind, NothingWithin, Taken, TakenBehind, asks, limits, room, tried_within}
+use Rattle.dm_explore.proofs.Searching.{behind_comes, behind_taken, goes_by_both, same_asks, same_limits}
 use Rattle.dm_explore.proofs.Fitting.{all_made}
 use Rattle.dm_explore.proofs.Looking.{same_room}
+use Rattle.dm_explore.proofs.Within.{by_lengths, one_length_alone, taken_shorter}
 use Rattle.dm_explore.proofs.Ways.{one_longer, steps_length}
 
 -- what was looked through without finding anything has been counted
@@ -104,22 +106,25 @@ pub record IsShorter (old new : Search) (n : ℕ) : Type 0 where
   pub goes : GoesBy old new
   pub search : IsSearch new (first_place old.world.boot)
   pub least : 1 ≤ n
+  -- so many may be tried as were asked for
+  pub full : old.limit ≡ old.bounds.now.most
   pub comes : answer old.world.boot (limits old) (question_said old.question) ≡ by_length old.world.boot (limits old) (question_said old.question) ((limits old).depth + 1 - n) n (room new)
   pub went : (k : ℕ) → k < n → TakenBehind old.world.boot (limits old) (first_place old.world.boot) k
 
-pub shorter_first : (s : Search) → IsSearch s (first_place s.world.boot) → s.tried ≡ 0 → IsShorter s s 1
+pub shorter_first : (s : Search) → IsSearch s (first_place s.world.boot) → s.tried ≡ 0 → s.limit ≡ s.bounds.now.most → IsShorter s s 1
 unfolding TakenBehind
-shorter_first s h none = record {
-  goes = record { boot = refl; bounds = refl; question = refl };
+shorter_first s h none full = record {
+  goes = record { boot = refl; bounds = refl; question = refl; limit = refl };
   search = h;
   least = omega arith;
+  full = full;
   comes = let depth : (limits s).depth ≡ (limits s).depth + 1 - 1 = omega arith in let all : (limits s).most ≡ room s = omega arith in
       ap (λ k. by_length s.world.boot (limits s) (question_said s.question) k 1 (limits s).most) depth ∙ ap (λ m. by_length s.world.boot (limits s) (question_said s.question) ((limits s).depth + 1 - 1) 1 m) all;
   went = λ k lt. let is : 0 ≡ k = omega arith in subst (TakenBehind s.world.boot (limits s) (first_place s.world.boot)) is h.gone;
 }
 
 -- there is a search of this length
-pub searches : (old new : Search) (n : ℕ) → IsShorter old new n → n ≤ old.bounds.now.depth → IsSearching new n
+pub searches : (old new : Search) (n : ℕ) → IsShorter old new n → n ≤ old.bounds.now.depth → IsSearching new n 0
 searches old new n s most = record {
   place = first_place old.world.boot;
   search = s.search;
@@ -130,6 +135,11 @@ searches old new n s most = record {
 -- one length
 abbrev pub through : Search → Search → ℕ → Looked
 through old mid n = look_through (asks old) (room mid) (tried old.world.boot (limits old) n)
+
+-- what comes of looking through it
+one_comes : (old mid new : Search) (n : ℕ) (r : TheLooked) → GoesBy old mid → LooksBehind mid new (first_place old.world.boot) n 0 r → Comes new (first_place old.world.boot) r (through old mid n)
+one_comes old mid new n r goes looked =
+    subst (λ ps. Comes new (first_place old.world.boot) r (look_through (asks old) (room mid) ps)) (one_length_alone old.world.boot (limits old) (first_place old.world.boot) n) (behind_comes old mid new (first_place old.world.boot) n 0 r goes looked)
 
 one_length : (old mid : Search) (n : ℕ) → IsShorter old mid n → n ≤ old.bounds.now.depth
     → answer old.world.boot (limits old) (question_said old.question) ≡ and_then (limits old) (through old mid n) (λ rest. by_length old.world.boot (limits old) (question_said old.question) ((limits old).depth - n) (n + 1) rest)
@@ -142,15 +152,15 @@ pub record Answered (s : Search) (a : Answer) : Type 0 where
   pub is : a ≡ answer s.world.boot (limits s) (question_said s.question)
   pub went : AllWent s.world.boot (limits s) a
 
-pub enough_answered : (old mid new : Search) (n : ℕ) → IsShorter old mid n → n ≤ old.bounds.now.depth → ((p : Place) → IsSearch mid p → LooksBehind mid new p n the.Enough) → Answered old (Undecided (limits old).most)
+pub enough_answered : (old mid new : Search) (n : ℕ) → IsShorter old mid n → n ≤ old.bounds.now.depth → ((p : Place) → IsSearch mid p → LooksBehind mid new p n 0 the.Enough) → Answered old (Undecided (limits old).most)
 enough_answered old mid new n s most looked =
-    let c : through old mid n ≡ Enough = behind_comes old mid new (first_place old.world.boot) n the.Enough s.goes (looked (first_place old.world.boot) s.search) in
+    let c : through old mid n ≡ Enough = one_comes old mid new n the.Enough s.goes (looked (first_place old.world.boot) s.search) in
     record { is = sym (one_length old mid n s most ∙ ap (λ l. and_then (limits old) l (λ rest. by_length old.world.boot (limits old) (question_said old.question) ((limits old).depth - n) (n + 1) rest)) c); went = tt }
 
-pub found_answered : (old mid new : Search) (n : ℕ) (a : Answer) → IsShorter old mid n → n ≤ old.bounds.now.depth → GoesBy mid new → ((p : Place) → IsSearch mid p → LooksBehind mid new p n the.Found) → ((p : Place) → IsSearch new p → a ≡ Found (steps_of p.done)) → Answered old a
+pub found_answered : (old mid new : Search) (n : ℕ) (a : Answer) → IsShorter old mid n → n ≤ old.bounds.now.depth → GoesBy mid new → ((p : Place) → IsSearch mid p → LooksBehind mid new p n 0 the.Found) → ((p : Place) → IsSearch new p → a ≡ Found (steps_of p.done)) → Answered old a
 found_answered old mid new n a s most goes looked is =
     let b = old.world.boot in
-    let c = behind_comes old mid new (first_place b) n the.Found s.goes (looked (first_place b) s.search) in
+    let c = one_comes old mid new n the.Found s.goes (looked (first_place b) s.search) in
     let u : Place = c.0 in
     let there : through old mid n ≡ FoundAt u = c.1 in
     let h : IsSearch new u = c.2 in
@@ -164,14 +174,14 @@ found_answered old mid new n a s most goes looked is =
     }
 
 -- one length more
-nothing_there : (old mid new : Search) (n : ℕ) → IsShorter old mid n → ((p : Place) → IsSearch mid p → LooksBehind mid new p n the.Nothing) → (through old mid n ≡ Nothing (room new)) × IsSearch new (first_place old.world.boot) × TakenBehind old.world.boot (limits old) (first_place old.world.boot) n
+nothing_there : (old mid new : Search) (n : ℕ) → IsShorter old mid n → ((p : Place) → IsSearch mid p → LooksBehind mid new p n 0 the.Nothing) → (through old mid n ≡ Nothing (room new)) × IsSearch new (first_place old.world.boot) × TakenBehind old.world.boot (limits old) (first_place old.world.boot) n
 nothing_there old mid new n s looked =
     let b = old.world.boot in
     let l = looked (first_place b) s.search in
-    let c = behind_comes old mid new (first_place b) n the.Nothing s.goes l in
-    (c.0, c.1, behind_taken old mid new (first_place b) n the.Nothing s.goes l refl)
+    let c = one_comes old mid new n the.Nothing s.goes l in
+    (c.0, c.1, behind_taken old mid new (first_place b) n 0 the.Nothing s.goes l refl)
 
-pub shorter_more : (old mid new : Search) (n : ℕ) → IsShorter old mid n → n ≤ old.bounds.now.depth → GoesBy mid new → ((p : Place) → IsSearch mid p → LooksBehind mid new p n the.Nothing) → IsShorter old new (n + 1)
+pub shorter_more : (old mid new : Search) (n : ℕ) → IsShorter old mid n → n ≤ old.bounds.now.depth → GoesBy mid new → ((p : Place) → IsSearch mid p → LooksBehind mid new p n 0 the.Nothing) → IsShorter old new (n + 1)
 shorter_more old mid new n s most goes looked =
     let t = nothing_there old mid new n s looked in
     let size : (limits old).depth - n ≡ (limits old).depth + 1 - (n + 1) = omega arith in
@@ -179,6 +189,7 @@ shorter_more old mid new n s most goes looked =
       goes = goes_by_both old mid new s.goes goes;
       search = t.1;
       least = omega arith;
+      full = s.full;
       comes = one_length old mid n s most ∙ ap (λ l. and_then (limits old) l (λ rest. by_length old.world.boot (limits old) (question_said old.question) ((limits old).depth - n) (n + 1) rest)) t.0
           ∙ ap (λ k. by_length old.world.boot (limits old) (question_said old.question) k (n + 1) (room new)) size;
       went = λ k lt. by k lt t.2 (cases_eq k n);
@@ -188,9 +199,39 @@ shorter_more old mid new n s most goes looked =
     by k lt t (inl same) = subst (TakenBehind old.world.boot (limits old) (first_place old.world.boot)) (sym same) t
     by k lt t (inr other) = s.went k (omega arith)
 
+-- some lengths at once
+pub shorter_further : (old mid new : Search) (shorter deepest : ℕ) → IsShorter old mid (shorter + 1) → shorter < deepest → deepest ≤ old.bounds.now.depth → GoesBy mid new → IsSearch new (first_place mid.world.boot) → NothingWithin mid new shorter deepest → IsShorter old new (deepest + 1)
+shorter_further old mid new shorter deepest s more deep goes stands nothing =
+    let b = old.world.boot in
+    let q = limits old in
+    let x = question_said old.question in
+    let w : ℕ = deepest - shorter - 1 in
+    let none : look_through (finds b x) (room mid) (tried_within b q w (first_place b) deepest) ≡ Nothing (room new) =
+    subst (λ c. look_through (finds b x) (room mid) (tried_within c q w (first_place c) deepest) ≡ Nothing (room new)) s.goes.boot
+    (subst (λ r. look_through (finds b x) (room mid) (tried_within mid.world.boot r w (first_place mid.world.boot) deepest) ≡ Nothing (room new)) (same_limits old mid s.goes)
+    (subst (λ t. look_through t (room mid) (tried_within mid.world.boot (limits mid) w (first_place mid.world.boot) deepest) ≡ Nothing (room new)) (same_asks old mid s.goes) nothing.none)) in
+    let taken : TakenBehind b q (first_place b) deepest =
+    subst (λ c. TakenBehind c q (first_place c) deepest) s.goes.boot (subst (λ r. TakenBehind mid.world.boot r (first_place mid.world.boot) deepest) (same_limits old mid s.goes) nothing.taken) in
+    let from : deepest - w ≡ shorter + 1 = omega arith in
+    let size : suc w + (q.depth - deepest) ≡ q.depth + 1 - (shorter + 1) = omega arith in
+    let left : q.depth - deepest ≡ q.depth + 1 - (deepest + 1) = omega arith in
+    record {
+      goes = goes_by_both old mid new s.goes goes;
+      search = subst (λ c. IsSearch new (first_place c)) s.goes.boot stands;
+      least = omega arith;
+      full = s.full;
+      comes = s.comes ∙ ap₂ (λ k n. by_length b q x k n (room mid)) (sym size) (sym from) ∙ by_lengths b q x w deepest (q.depth - deepest) (room mid) (room new) (omega arith) none
+          ∙ ap (λ k. by_length b q x k (deepest + 1) (room new)) left;
+      went = λ k lt. let sum : deepest ≡ k + (deepest - k) = omega arith in taken_shorter b q k (deepest - k) (first_place b) (subst (TakenBehind b q (first_place b)) sum taken);
+    }
+
 -- so many were tried
-tried_so : (s : Search) (p : Place) → IsSearch s p → s.bounds.now.most - room s ≡ s.tried
-tried_so s p h = let few = h.few in omega arith
+tried_so : (s : Search) (p : Place) → IsSearch s p → s.limit ≡ s.bounds.now.most → s.bounds.now.most - room s ≡ s.tried
+tried_so s p h full = let few = h.few in omega arith
+
+-- as many as were asked for may be tried still
+full_still : (old new : Search) → GoesBy old new → old.limit ≡ old.bounds.now.most → new.limit ≡ new.bounds.now.most
+full_still old new g full = g.limit ∙ full ∙ λ i. ((sym g.bounds) i).now.most
 
 -- all lengths
 pub none_answered : (old new : Search) (n : ℕ) → IsShorter old new n → old.bounds.now.depth < n → Answered old (NoneWithin new.bounds.now.depth new.tried)
@@ -199,7 +240,7 @@ none_answered old new n s over =
     let deep : new.bounds.now.depth ≡ (limits old).depth = λ i. (s.goes.bounds i).now.depth in
     let wide : new.bounds.now.most ≡ (limits old).most = λ i. (s.goes.bounds i).now.most in
     let size : (limits old).depth + 1 - n ≡ 0 = omega arith in
-    let count = tried_so new (first_place b) s.search in
+    let count = tried_so new (first_place b) s.search (full_still old new s.goes s.full) in
     let all : NoneWithin (limits old).depth ((limits old).most - room new) ≡ NoneWithin new.bounds.now.depth new.tried = λ i. NoneWithin ((sym deep) i) ((ap (λ m. m - room new) (sym wide) ∙ count) i) in
     record {
       is = sym (s.comes ∙ ap (λ k. by_length b (limits old) (question_said old.question) k n (room new)) size ∙ all);
@@ -207,7 +248,7 @@ none_answered old new n s over =
     }
 
 -- or none has one more
-pub stopped_answered : (old mid new : Search) (n : ℕ) → IsShorter old mid n → GoesBy mid new → ((p : Place) → IsSearch mid p → LooksBehind mid new p n the.Nothing) → new.tried ≡ mid.tried → Answered old (NoneWithin new.bounds.now.depth new.tried)
+pub stopped_answered : (old mid new : Search) (n : ℕ) → IsShorter old mid n → GoesBy mid new → ((p : Place) → IsSearch mid p → LooksBehind mid new p n 0 the.Nothing) → new.tried ≡ mid.tried → Answered old (NoneWithin new.bounds.now.depth new.tried)
 stopped_answered old mid new n s goes looked same =
     let b = old.world.boot in
     let first = first_place b in
@@ -215,7 +256,7 @@ stopped_answered old mid new n s goes looked same =
     let both = goes_by_both old mid new s.goes goes in
     let deep : new.bounds.now.depth ≡ (limits old).depth = λ i. (both.bounds i).now.depth in
     let wide : new.bounds.now.most ≡ (limits old).most = λ i. (both.bounds i).now.most in
-    let count = tried_so new first t.1 in
+    let count = tried_so new first t.1 (full_still old new both s.full) in
     let all : NoneWithin (limits old).depth ((limits old).most - room new) ≡ NoneWithin new.bounds.now.depth new.tried = λ i. NoneWithin ((sym deep) i) ((ap (λ m. m - room new) (sym wide) ∙ count) i) in
     let still : room mid ≡ room new = same_room mid new goes same in
     let size = counts (asks old) (room mid) (room new) (tried b (limits old) n) t.0 in

@@ -8,7 +8,12 @@ pub mod Fitting
 pub mod Searching
 pub mod Redoing
 pub mod Going
+pub mod Within
 pub mod Looking
 pub mod Lengths
 pub mod Judging
+pub mod AtOnce
 pub mod Telling
+pub mod Elements
+pub mod AllChosen
+pub mod Many

@@ -21,8 +21,8 @@ use Rattle.dm_explore.specs.Finds.{finds}
 use Rattle.dm_explore.specs.Noted.{IsPast}
 use Rattle.dm_explore.specs.Offered.{Offers, left_in}
 use Rattle.dm_explore.specs.Order.{is_left_out}
-use Rattle.dm_explore.specs.Places.{Place, after_step, open_at, opened, sight, tried_behind}
-use Rattle.dm_explore.specs.Search.{AreAsked, Comes, GoesBy, HasGone, IsSearch, LooksBehind, Stepped, Taken, TakenBehind, asks, limits, room}
+use Rattle.dm_explore.specs.Places.{Place, after_step, open_at, opened, sight}
+use Rattle.dm_explore.specs.Search.{AreAsked, Comes, GoesBy, HasGone, IsSearch, LooksBehind, Stepped, Taken, TakenBehind, asks, limits, room, tried_within}
 use Rattle.dm_explore.specs.Sights.{world_sight}
 use Rattle.dm_explore.proofs.Fitting.{choices_fit}
 
@@ -55,23 +55,23 @@ through_enough test (suc n) (x ∷ xs) ys h = by (test x) h (through_enough test
     by false h later = later h
 
 -- the places that are tried behind some directives
-abbrev pub places : Boot → Bounds → Place → ℕ → List Step → List Place
-places b q p left es = flat_map (λ u. tried_behind b q u left) (filter_map (after_step b p) es)
+abbrev pub places : Boot → Bounds → ℕ → Place → ℕ → List Step → List Place
+places b q within p left es = flat_map (λ u. tried_within b q within u left) (filter_map (after_step b p) es)
 
-cons_given : (b : Boot) (q : Bounds) (p u : Place) (left : ℕ) (e : Step) (es : List Step) → after_step b p e ≡ Some u → places b q p left (e ∷ es) ≡ tried_behind b q u left ++ places b q p left es
-cons_given b q p u left e es h = ap (λ o. flat_map (λ u. tried_behind b q u left) (cons_option o (filter_map (after_step b p) es))) h
+cons_given : (b : Boot) (q : Bounds) (within : ℕ) (p u : Place) (left : ℕ) (e : Step) (es : List Step) → after_step b p e ≡ Some u → places b q within p left (e ∷ es) ≡ tried_within b q within u left ++ places b q within p left es
+cons_given b q within p u left e es h = ap (λ o. flat_map (λ u. tried_within b q within u left) (cons_option o (filter_map (after_step b p) es))) h
 
-cons_none : (b : Boot) (q : Bounds) (p : Place) (left : ℕ) (e : Step) (es : List Step) → after_step b p e ≡ None → places b q p left (e ∷ es) ≡ places b q p left es
-cons_none b q p left e es h = ap (λ o. flat_map (λ u. tried_behind b q u left) (cons_option o (filter_map (after_step b p) es))) h
+cons_none : (b : Boot) (q : Bounds) (within : ℕ) (p : Place) (left : ℕ) (e : Step) (es : List Step) → after_step b p e ≡ None → places b q within p left (e ∷ es) ≡ places b q within p left es
+cons_none b q within p left e es h = ap (λ o. flat_map (λ u. tried_within b q within u left) (cons_option o (filter_map (after_step b p) es))) h
 
 -- the first of some directives are done with: what comes of all is what comes of the others
-pub record LooksOn (b : Boot) (q : Bounds) (test : Place → Bool) (whole : Looked) (p : Place) (es : List Step) (i left n : ℕ) : Type 0 where
-  pub comes : whole ≡ look_through test n (places b q p left (drop i es))
+pub record LooksOn (b : Boot) (q : Bounds) (within : ℕ) (test : Place → Bool) (whole : Looked) (p : Place) (es : List Step) (i left n : ℕ) : Type 0 where
+  pub comes : whole ≡ look_through test n (places b q within p left (drop i es))
   pub taken : All (Taken b p) (take i es)
   pub behind : All (λ u. TakenBehind b q u left) (filter_map (after_step b p) (take i es))
 
-pub looks_first : (b : Boot) (q : Bounds) (test : Place → Bool) (p : Place) (es : List Step) (left n : ℕ) → LooksOn b q test (look_through test n (places b q p left es)) p es 0 left n
-looks_first b q test p es left n = record { comes = refl; taken = All-nil (Taken b p); behind = All-nil (λ u. TakenBehind b q u left) }
+pub looks_first : (b : Boot) (q : Bounds) (within : ℕ) (test : Place → Bool) (p : Place) (es : List Step) (left n : ℕ) → LooksOn b q within test (look_through test n (places b q within p left es)) p es 0 left n
+looks_first b q within test p es left n = record { comes = refl; taken = All-nil (Taken b p); behind = All-nil (λ u. TakenBehind b q u left) }
 
 -- of one more
 one_taken : (b : Boot) (p : Place) (es : List Step) (i : ℕ) (d e : Step) → i < length es → e ≡ get_or es i d → All (Taken b p) (take i es) → Taken b p e → All (Taken b p) (take (i + 1) es)
@@ -85,51 +85,46 @@ one_more b p es i d e lt is =
 one_less : (es : List Step) (i : ℕ) (d e : Step) → i < length es → e ≡ get_or es i d → drop i es ≡ e ∷ drop (i + 1) es
 one_less es i d e lt is = drop_more es i d lt ∙ ap (λ x. x ∷ drop (i + 1) es) (sym is)
 
-pub looks_worn : (b : Boot) (q : Bounds) (test : Place → Bool) (whole : Looked) (p : Place) (es : List Step) (i left n : ℕ) (d e : Step) → LooksOn b q test whole p es i left n → i < length es → e ≡ get_or es i d → after_step b p e ≡ None → Taken b p e
-    → LooksOn b q test whole p es (i + 1) left n
-looks_worn b q test whole p es i left n d e h lt is none t = record {
-  comes = h.comes ∙ ap (λ ds. look_through test n (places b q p left ds)) (one_less es i d e lt is) ∙ ap (look_through test n) (cons_none b q p left e (drop (i + 1) es) none);
+pub looks_worn : (b : Boot) (q : Bounds) (within : ℕ) (test : Place → Bool) (whole : Looked) (p : Place) (es : List Step) (i left n : ℕ) (d e : Step) → LooksOn b q within test whole p es i left n → i < length es → e ≡ get_or es i d → after_step b p e ≡ None → Taken b p e
+    → LooksOn b q within test whole p es (i + 1) left n
+looks_worn b q within test whole p es i left n d e h lt is none t = record {
+  comes = h.comes ∙ ap (λ ds. look_through test n (places b q within p left ds)) (one_less es i d e lt is) ∙ ap (look_through test n) (cons_none b q within p left e (drop (i + 1) es) none);
   taken = one_taken b p es i d e lt is h.taken t;
   behind = subst (All (λ u. TakenBehind b q u left)) (sym (one_more b p es i d e lt is ∙ ap (λ o. filter_map (after_step b p) (take i es) ++ cons_option o []) none)) (All-append (λ u. TakenBehind b q u left) (filter_map (after_step b p) (take i es)) [] h.behind (All-nil (λ u. TakenBehind b q u left)));
 }
 
-pub looks_more : (b : Boot) (q : Bounds) (test : Place → Bool) (whole : Looked) (p u : Place) (es : List Step) (i left n k : ℕ) (d e : Step) → LooksOn b q test whole p es i left n → i < length es → e ≡ get_or es i d → after_step b p e ≡ Some u → Taken b p e
-    → look_through test n (tried_behind b q u left) ≡ Nothing k → TakenBehind b q u left → LooksOn b q test whole p es (i + 1) left k
-looks_more b q test whole p u es i left n k d e h lt is there t none behind = record {
-  comes = h.comes ∙ ap (λ ds. look_through test n (places b q p left ds)) (one_less es i d e lt is) ∙ ap (look_through test n) (cons_given b q p u left e (drop (i + 1) es) there)
-      ∙ through_nothing test n k (tried_behind b q u left) (places b q p left (drop (i + 1) es)) none;
+pub looks_more : (b : Boot) (q : Bounds) (within : ℕ) (test : Place → Bool) (whole : Looked) (p u : Place) (es : List Step) (i left n k : ℕ) (d e : Step) → LooksOn b q within test whole p es i left n → i < length es → e ≡ get_or es i d → after_step b p e ≡ Some u → Taken b p e
+    → look_through test n (tried_within b q within u left) ≡ Nothing k → TakenBehind b q u left → LooksOn b q within test whole p es (i + 1) left k
+looks_more b q within test whole p u es i left n k d e h lt is there t none behind = record {
+  comes = h.comes ∙ ap (λ ds. look_through test n (places b q within p left ds)) (one_less es i d e lt is) ∙ ap (look_through test n) (cons_given b q within p u left e (drop (i + 1) es) there)
+      ∙ through_nothing test n k (tried_within b q within u left) (places b q within p left (drop (i + 1) es)) none;
   taken = one_taken b p es i d e lt is h.taken t;
   behind = subst (All (λ u. TakenBehind b q u left)) (sym (one_more b p es i d e lt is ∙ ap (λ o. filter_map (after_step b p) (take i es) ++ cons_option o []) there)) (All-push (λ u. TakenBehind b q u left) (filter_map (after_step b p) (take i es)) u h.behind behind);
 }
 
 -- what ends the search behind one of them ends all
-pub looks_ended : (b : Boot) (q : Bounds) (test : Place → Bool) (whole : Looked) (p u : Place) (es : List Step) (i left n : ℕ) (d e : Step) (new : Search) (r : TheLooked) → LooksOn b q test whole p es i left n → i < length es → e ≡ get_or es i d → after_step b p e ≡ Some u
-    → (r ≡ the.Nothing → ⊥) → Comes new u r (look_through test n (tried_behind b q u left)) → Comes new p r whole
-looks_ended b q test whole p u es i left n d e new the.Found h lt is there other c = (
+pub looks_ended : (b : Boot) (q : Bounds) (within : ℕ) (test : Place → Bool) (whole : Looked) (p u : Place) (es : List Step) (i left n : ℕ) (d e : Step) (new : Search) (r : TheLooked) → LooksOn b q within test whole p es i left n → i < length es → e ≡ get_or es i d → after_step b p e ≡ Some u
+    → (r ≡ the.Nothing → ⊥) → Comes new u r (look_through test n (tried_within b q within u left)) → Comes new p r whole
+looks_ended b q within test whole p u es i left n d e new the.Found h lt is there other c = (
   c.0,
-  h.comes ∙ ap (λ ds. look_through test n (places b q p left ds)) (one_less es i d e lt is) ∙ ap (look_through test n) (cons_given b q p u left e (drop (i + 1) es) there)
-      ∙ through_found test n c.0 (tried_behind b q u left) (places b q p left (drop (i + 1) es)) c.1,
+  h.comes ∙ ap (λ ds. look_through test n (places b q within p left ds)) (one_less es i d e lt is) ∙ ap (look_through test n) (cons_given b q within p u left e (drop (i + 1) es) there)
+      ∙ through_found test n c.0 (tried_within b q within u left) (places b q within p left (drop (i + 1) es)) c.1,
   c.2,
 )
-looks_ended b q test whole p u es i left n d e new the.Nothing h lt is there other c = absurd (other refl)
-looks_ended b q test whole p u es i left n d e new the.Enough h lt is there other c =
-    h.comes ∙ ap (λ ds. look_through test n (places b q p left ds)) (one_less es i d e lt is) ∙ ap (look_through test n) (cons_given b q p u left e (drop (i + 1) es) there)
-    ∙ through_enough test n (tried_behind b q u left) (places b q p left (drop (i + 1) es)) c
+looks_ended b q within test whole p u es i left n d e new the.Nothing h lt is there other c = absurd (other refl)
+looks_ended b q within test whole p u es i left n d e new the.Enough h lt is there other c =
+    h.comes ∙ ap (λ ds. look_through test n (places b q within p left ds)) (one_less es i d e lt is) ∙ ap (look_through test n) (cons_given b q within p u left e (drop (i + 1) es) there)
+    ∙ through_enough test n (tried_within b q within u left) (places b q within p left (drop (i + 1) es)) c
 
 -- and where none is left, nothing is found
-pub looks_all : (b : Boot) (q : Bounds) (test : Place → Bool) (whole : Looked) (p : Place) (es : List Step) (i left n : ℕ) → LooksOn b q test whole p es i left n → length es ≤ i → whole ≡ Nothing n
-looks_all b q test whole p es i left n h most = h.comes ∙ ap (λ ds. look_through test n (places b q p left ds)) (drop_all i es most)
+pub looks_all : (b : Boot) (q : Bounds) (within : ℕ) (test : Place → Bool) (whole : Looked) (p : Place) (es : List Step) (i left n : ℕ) → LooksOn b q within test whole p es i left n → length es ≤ i → whole ≡ Nothing n
+looks_all b q within test whole p es i left n h most = h.comes ∙ ap (λ ds. look_through test n (places b q within p left ds)) (drop_all i es most)
 
-pub taken_all : (b : Boot) (q : Bounds) (test : Place → Bool) (whole : Looked) (p : Place) (es : List Step) (i left n : ℕ) → LooksOn b q test whole p es i left n → length es ≤ i → es ≡ open_at b q p → HasGone b p → TakenBehind b q p (suc left)
+pub taken_all : (b : Boot) (q : Bounds) (within : ℕ) (test : Place → Bool) (whole : Looked) (p : Place) (es : List Step) (i left n : ℕ) → LooksOn b q within test whole p es i left n → length es ≤ i → es ≡ open_at b q p → HasGone b p → TakenBehind b q p (suc left)
 unfolding TakenBehind
-taken_all b q test whole p es i left n h most is gone =
+taken_all b q within test whole p es i left n h most is gone =
     let all : take i es ≡ open_at b q p = take_all i es most ∙ is in
     (gone, subst (All (Taken b p)) all h.taken, subst (λ ds. All (λ u. TakenBehind b q u left) (filter_map (after_step b p) ds)) all h.behind)
-
--- the places that are tried behind one are those behind its choices
-pub tried_places : (b : Boot) (q : Bounds) (p : Place) (left k : ℕ) → k ≡ suc left → tried_behind b q p k ≡ places b q p left (open_at b q p)
-unfolding tried_behind
-tried_places b q p left k is = ap (tried_behind b q p) is
 
 -- what a search goes by
 pub same_limits : (old new : Search) → GoesBy old new → limits new ≡ limits old
@@ -139,20 +134,20 @@ pub same_asks : (old new : Search) → GoesBy old new → asks new ≡ asks old
 same_asks old new g = λ i. λ p. finds (g.boot i) (question_said (g.question i)) p
 
 pub goes_by_itself : (s : Search) → GoesBy s s
-goes_by_itself s = record { boot = refl; bounds = refl; question = refl }
+goes_by_itself s = record { boot = refl; bounds = refl; question = refl; limit = refl }
 
 pub goes_by_both : (s t u : Search) → GoesBy s t → GoesBy t u → GoesBy s u
-goes_by_both s t u g h = record { boot = h.boot ∙ g.boot; bounds = h.bounds ∙ g.bounds; question = h.question ∙ g.question }
+goes_by_both s t u g h = record { boot = h.boot ∙ g.boot; bounds = h.bounds ∙ g.bounds; question = h.question ∙ g.question; limit = h.limit ∙ g.limit }
 
 -- what comes of looking, said over what the search went by before
-pub behind_comes : (old mid new : Search) (u : Place) (left : ℕ) (r : TheLooked) → GoesBy old mid → LooksBehind mid new u left r → Comes new u r (look_through (asks old) (room mid) (tried_behind old.world.boot (limits old) u left))
-behind_comes old mid new u left r g h =
-    subst (λ b. Comes new u r (look_through (asks old) (room mid) (tried_behind b (limits old) u left))) g.boot
-    (subst (λ q. Comes new u r (look_through (asks old) (room mid) (tried_behind mid.world.boot q u left))) (same_limits old mid g)
-    (subst (λ t. Comes new u r (look_through t (room mid) (tried_behind mid.world.boot (limits mid) u left))) (same_asks old mid g) h.comes))
+pub behind_comes : (old mid new : Search) (u : Place) (left within : ℕ) (r : TheLooked) → GoesBy old mid → LooksBehind mid new u left within r → Comes new u r (look_through (asks old) (room mid) (tried_within old.world.boot (limits old) within u left))
+behind_comes old mid new u left within r g h =
+    subst (λ b. Comes new u r (look_through (asks old) (room mid) (tried_within b (limits old) within u left))) g.boot
+    (subst (λ q. Comes new u r (look_through (asks old) (room mid) (tried_within mid.world.boot q within u left))) (same_limits old mid g)
+    (subst (λ t. Comes new u r (look_through t (room mid) (tried_within mid.world.boot (limits mid) within u left))) (same_asks old mid g) h.comes))
 
-pub behind_taken : (old mid new : Search) (u : Place) (left : ℕ) (r : TheLooked) → GoesBy old mid → LooksBehind mid new u left r → r ≡ the.Nothing → TakenBehind old.world.boot (limits old) u left
-behind_taken old mid new u left r g h is =
+pub behind_taken : (old mid new : Search) (u : Place) (left within : ℕ) (r : TheLooked) → GoesBy old mid → LooksBehind mid new u left within r → r ≡ the.Nothing → TakenBehind old.world.boot (limits old) u left
+behind_taken old mid new u left within r g h is =
     subst (λ b. TakenBehind b (limits old) u left) g.boot (subst (λ q. TakenBehind mid.world.boot q u left) (same_limits old mid g) (h.taken is))
 
 -- the choices that are offered are those that are open, and are directives for the machines

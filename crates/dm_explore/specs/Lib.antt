@@ -10,3 +10,4 @@ pub mod Finds
 pub mod Answers
 pub mod AnswerText
 pub mod Search
+pub mod Laws

@@ -1,6 +1,6 @@
 -- What the functions of the search promise.
-use Rattle.std.specs.Prelude.{◌≡◌, ⊤, ℕ, zero, suc, ◌+◌, ◌-◌, ◌<◌, ◌≤◌, ◌⊎◌, Bool, true, false, List, [], ◌∷◌, length}
-use Rattle.std.specs.List.{All}
+use Rattle.std.specs.Prelude.{◌≡◌, ⊤, ℕ, zero, suc, ◌+◌, ◌-◌, ◌<◌, ◌≤◌, ◌⊎◌, nat_le, Bool, true, false, if◌then◌else◌, List, [], ◌∷◌, ◌++◌, length}
+use Rattle.std.specs.List.{All, flat_map}
 use Rattle.std.specs.Option.{option_and_then}
 use Rattle.std.specs.declared.option.Option.{Option}
 use Rattle.std.specs.declared.option.Option.TheVariants.{None, Some}
@@ -22,7 +22,7 @@ use Rattle.dm_explore.specs.Answers.{Answer, Found, NoneWithin, Undecided, Looke
 use Rattle.dm_explore.specs.Finds.{finds}
 use Rattle.dm_explore.specs.Noted.{IsPast}
 use Rattle.dm_explore.specs.Past.{groups_of, last_lines, steps_of}
-use Rattle.dm_explore.specs.Places.{Place, after_step, first_place, open_at, opened, tried_behind}
+use Rattle.dm_explore.specs.Places.{Place, after_step, first_place, open_at, opened}
 
 -- a request to move, or a calling off, for so many machines
 abbrev pub IsRequest : ℕ → Step → Type 0
@@ -67,25 +67,26 @@ pub record IsSearch (s : Search) (p : Place) : Type 0 where
   pub gone : HasGone s.world.boot p
   pub running : s.there ≡ true → IsRunning s.world
   pub there : s.there ≡ true → world_state s.world ≡ p.state
-  pub few : s.tried ≤ s.bounds.now.most
+  pub few : s.tried ≤ s.limit
 
 -- its last group is that of the last directive, and the world is there
 pub record IsFresh (s : Search) (p : Place) : Type 0 where
   pub there : s.there ≡ true
   pub last : s.last.items ≡ last_lines p.done
 
--- at some place, of at most so many directives
-pub record IsSearching (s : Search) (left : ℕ) : Type 0 where
+-- at some place, of at most so many directives; it is fresh where it is looked at
+pub record IsSearching (s : Search) (left within : ℕ) : Type 0 where
   pub place : Place
   pub search : IsSearch s place
   pub short : length place.done + left ≤ 64
-  pub fresh : left ≡ 0 → IsFresh s place
+  pub fresh : left ≤ within → IsFresh s place
 
 -- what a search goes by stays
 pub record GoesBy (old new : Search) : Type 0 where
   pub boot : new.world.boot ≡ old.world.boot
   pub bounds : new.bounds ≡ old.bounds
   pub question : new.question ≡ old.question
+  pub limit : new.limit ≡ old.limit
 
 -- a directive that may be chosen was done, or wears a pair of machines
 abbrev pub Taken : Boot → Place → Step → Type 0
@@ -118,7 +119,7 @@ abbrev pub asks : Search → Place → Bool
 asks s p = finds s.world.boot (question_said s.question) p
 
 abbrev pub room : Search → ℕ
-room s = s.bounds.now.most - s.tried
+room s = s.limit - s.tried
 
 -- what comes of looking, by where the search stands then
 abbrev pub Comes : Search → Place → TheLooked → Looked → Type 0
@@ -126,10 +127,32 @@ Comes new p the.Found l = (u : Place) × (l ≡ FoundAt u) × IsSearch new u
 Comes new p the.Nothing l = (l ≡ Nothing (room new)) × IsSearch new p
 Comes new p the.Enough l = (l ≡ Enough)
 
--- the places so many directives behind one were looked through, in order; where nothing is found, all of them
-pub record LooksBehind (old new : Search) (p : Place) (left : ℕ) (r : TheLooked) : Type 0 where
-  pub comes : Comes new p r (look_through (asks old) (room old) (tried_behind old.world.boot (limits old) p left))
+-- a place, where no more than so many directives are left behind it
+abbrev pub here_within : ℕ → ℕ → Place → List Place
+here_within left within p = if nat_le left within then p ∷ [] else []
+
+-- the places so many directives behind one that are tried, each behind those on the way there of which no more than so many are left
+unfoldable pub tried_within : Boot → Bounds → ℕ → Place → ℕ → List Place
+tried_within b q within p zero = p ∷ []
+tried_within b q within p (suc n) = here_within (suc n) within p ++ flat_map (λ u. tried_within b q within u n) (opened b q p)
+
+-- the place was looked at where it stands
+pub record LooksAt (old new : Search) (p : Place) (r : TheLooked) : Type 0 where
+  pub comes : Comes new p r (look_through (asks old) (room old) (p ∷ []))
+
+-- if it is one of those that are looked at
+pub record LooksHere (old new : Search) (p : Place) (left within : ℕ) (r : TheLooked) : Type 0 where
+  pub comes : Comes new p r (look_through (asks old) (room old) (here_within left within p))
+
+-- these places were looked through, in order; where nothing is found, all of them
+pub record LooksBehind (old new : Search) (p : Place) (left within : ℕ) (r : TheLooked) : Type 0 where
+  pub comes : Comes new p r (look_through (asks old) (room old) (tried_within old.world.boot (limits old) within p left))
   pub taken : r ≡ the.Nothing → TakenBehind old.world.boot (limits old) p left
+
+-- nothing is found in all schedules that have more than so many directives, and no more than so many
+pub record NothingWithin (old new : Search) (shorter deepest : ℕ) : Type 0 where
+  pub none : look_through (asks old) (room old) (tried_within old.world.boot (limits old) (deepest - shorter - 1) (first_place old.world.boot) deepest) ≡ Nothing (room new)
+  pub taken : TakenBehind old.world.boot (limits old) (first_place old.world.boot) deepest
 
 -- a run of the world has gone to what is found
 pub record FoundGone (b : Boot) (es : List Step) : Type 0 where

@@ -1,5 +1,5 @@
 //! The search: all schedules of one directive that are tried, then of two, and so on, each in the order of the choices.
-ghost use Rattle.std.specs.Prelude.{◌≡◌, ◌+◌, ◌<◌, ◌^◌, IfOk, List, OnOk, Some, length, true};
+ghost use Rattle.std.specs.Prelude.{◌≡◌, ◌≤◌, ◌+◌, ◌<◌, ◌^◌, [], IfOk, List, OnOk, Some, false, length, true};
 ghost use Rattle.dm_onekernel.specs.Boot.{IsValid};
 ghost use Rattle.dm_line.specs.declared.line.Line.{Line as TheLine};
 ghost use Rattle.dm_schedule.specs.declared.Step.{Step as TheStep};
@@ -13,12 +13,13 @@ ghost use Rattle.dm_explore.specs.Asked.{bounds_said, question_said};
 ghost use Rattle.dm_explore.specs.Noted.{IsPast};
 ghost use Rattle.dm_explore.specs.Past.{steps_of};
 ghost use Rattle.dm_explore.specs.Places.{Place, after_step, first_place};
-ghost use Rattle.dm_explore.specs.Search.{AllWent, AreAsked, GoesBy, HasGone, IsSearch, IsSearching, Leads, LooksBehind, WentOn};
+ghost use Rattle.dm_explore.specs.Search.{AllWent, AreAsked, GoesBy, HasGone, IsSearch, IsSearching, Leads, LooksAt, LooksBehind, LooksHere, NothingWithin, WentOn};
 
 use crate::answer::Answer;
 use crate::bounds::{Bounds, Question};
 use crate::choices::open_choices;
 use crate::finds::finds;
+use crate::pace::Pace;
 use crate::past::Past;
 use crate::sights::who_acts;
 use dm_line::line::Line;
@@ -55,6 +56,8 @@ struct Search<'a> {
     last: Vec<Line>,
     page: Vec<u8>,
     tried: u32,
+    /// How many may be tried before it is enough.
+    limit: u32,
 }
 
 /// Looks through the schedules of a system within bounds.
@@ -82,22 +85,32 @@ pub fn explore(
         last: Vec::new(alloc),
         page: Vec::new(alloc),
         tried: 0,
+        limit: bounds.most,
     };
     search.answer()
 }
 
 impl<'a> Search<'a> {
-    /// Looks through them by their length.
+    /// Looks through them by their length: some lengths at once where that costs less, and one by one where something is found.
     fn answer(&mut self) -> Result<Answer, NoMemory>
         requires law { RunsGo }
         requires first { IsSearch self.old (first_place self.old.world.boot) }
         requires none { self.old.tried ≡ 0 }
+        requires all { self.old.limit ≡ self.old.bounds.now.most }
         ensures answer { IfOk result (λ a. answer_said a ≡ answer self.old.world.boot (bounds_said self.old.bounds.now) (question_said self.old.question)) }
         ensures went { IfOk result (λ a. AllWent self.old.world.boot (bounds_said self.old.bounds.now) (answer_said a)) }
     {
-        for shorter in 0..self.bounds.depth {
+        let mut pace = Pace::new();
+        let mut shorter = 0;
+        'lengths: while shorter < self.bounds.depth {
             let before = self.tried;
-            match self.look_behind(shorter + 1)? {
+            let deepest = pace.deepest(shorter, self.bounds.depth);
+            if self.finds_nothing(shorter, deepest, pace.limit(before))? {
+                pace.at_once(deepest - shorter, before, self.tried);
+                shorter = deepest;
+                continue;
+            }
+            match self.look_behind(shorter + 1, 0)? {
                 Looked::Found => return self.found(),
                 Looked::Enough => {
                     return Ok(Answer::Undecided {
@@ -110,8 +123,52 @@ impl<'a> Search<'a> {
                     }
                 }
             }
+            pace.one_by_one(deepest - shorter, before, self.tried);
+            shorter += 1;
         }
         Ok(self.none())
+    }
+
+    /// Whether nothing is found in all schedules that are longer than the one number and not longer than the other, of which no more than
+    /// so many are tried. Else the search stands where it stood. Where it is one length, that isn't looked at.
+    fn finds_nothing(&mut self, shorter: u8, deepest: u8, limit: u32) -> Result<bool, NoMemory>
+        requires law { RunsGo }
+        requires first { IsSearch self.old (first_place self.old.world.boot) }
+        requires all { self.old.limit ≡ self.old.bounds.now.most }
+        requires more { shorter < deepest }
+        requires deep { deepest ≤ self.old.bounds.now.depth }
+        ensures nothing { IfOk result (λ r. r ≡ true → NothingWithin self.old self.new shorter deepest) }
+        ensures stands { OnOk result (IsSearch self.new (first_place self.old.world.boot)) }
+        ensures tried { IfOk result (λ r. r ≡ false → self.new.tried ≡ self.old.tried) }
+        ensures by { OnOk result (GoesBy self.old self.new) }
+    {
+        if deepest - shorter == 1 {
+            return Ok(false);
+        }
+        let before = self.tried;
+        let most = self.bounds.most;
+        self.limit = within(limit, before, most);
+        let looked = self.look_behind(deepest, deepest - shorter - 1)?;
+        self.limit = most;
+        match looked {
+            Looked::Nothing => Ok(true),
+            _ => {
+                self.begin_anew(before);
+                Ok(false)
+            }
+        }
+    }
+
+    /// Takes all directives back; so many schedules were tried.
+    fn begin_anew(&mut self, tried: u32)
+        ensures past { IsPast self.new.past [] }
+        ensures there { self.new.there ≡ false }
+        ensures tried { self.new.tried ≡ tried }
+        ensures by { GoesBy self.old self.new }
+    {
+        self.past = Past::new(self.alloc);
+        self.there = false;
+        self.tried = tried;
     }
 
     /// There is none within the bounds.
@@ -135,21 +192,26 @@ impl<'a> Search<'a> {
         Ok(Answer::Found(steps))
     }
 
-    /// Looks through the schedules with so many directives behind those where the search stands.
-    fn look_behind(&mut self, left: u8) -> Result<Looked, NoMemory>
+    /// Looks through the schedules with so many directives behind those where the search stands; also through those on the way there of
+    /// which so many are left, or fewer.
+    fn look_behind(&mut self, left: u8, within: u8) -> Result<Looked, NoMemory>
         requires law { RunsGo }
-        requires search { IsSearching self.old left }
-        ensures looks { IfOk result (λ r. (p : Place) → IsSearch self.old p → LooksBehind self.old self.new p left r) }
+        requires search { IsSearching self.old left within }
+        ensures looks { IfOk result (λ r. (p : Place) → IsSearch self.old p → LooksBehind self.old self.new p left within r) }
         ensures by { GoesBy self.old self.new }
     {
+        let here = self.look_here(left, within)?;
+        if ends(here) {
+            return Ok(here);
+        }
         if left == 0 {
-            return self.judge();
+            return Ok(Looked::Nothing);
         }
         self.go_there()?;
         let steps = open_choices(self.alloc, self.bounds, &self.world, &self.past)?;
         for step in steps.as_slice() {
             if self.go_on(*step)? {
-                match self.look_behind(left - 1)? {
+                match self.look_behind(left - 1, within)? {
                     Looked::Nothing => self.go_back(),
                     looked => return Ok(looked),
                 }
@@ -158,13 +220,26 @@ impl<'a> Search<'a> {
         Ok(Looked::Nothing)
     }
 
-    /// Counts the schedule where the search stands, and looks whether it is found there.
-    fn judge(&mut self) -> Result<Looked, NoMemory>
-        requires search { IsSearching self.old 0 }
-        ensures looks { IfOk result (λ r. (p : Place) → IsSearch self.old p → LooksBehind self.old self.new p 0 r) }
+    /// Looks at the schedule where the search stands, if it is one of those.
+    fn look_here(&mut self, left: u8, within: u8) -> Result<Looked, NoMemory>
+        requires search { IsSearching self.old left within }
+        ensures looks { IfOk result (λ r. (p : Place) → IsSearch self.old p → LooksHere self.old self.new p left within r) }
         ensures by { GoesBy self.old self.new }
     {
-        if self.tried == self.bounds.most {
+        if left <= within {
+            self.judge()
+        } else {
+            Ok(Looked::Nothing)
+        }
+    }
+
+    /// Counts the schedule where the search stands, and looks whether it is found there.
+    fn judge(&mut self) -> Result<Looked, NoMemory>
+        requires search { IsSearching self.old 0 0 }
+        ensures looks { IfOk result (λ r. (p : Place) → IsSearch self.old p → LooksAt self.old self.new p r) }
+        ensures by { GoesBy self.old self.new }
+    {
+        if self.tried == self.limit {
             return Ok(Looked::Enough);
         }
         self.tried += 1;
@@ -185,7 +260,7 @@ impl<'a> Search<'a> {
     /// Has the world come where the directives of the past lead.
     fn go_there(&mut self) -> Result<(), NoMemory>
         requires law { RunsGo }
-        requires search { IsSearching self.old 1 }
+        requires search { IsSearching self.old 1 0 }
         ensures there { OnOk result ((p : Place) → IsSearch self.old p → IsSearch self.new p) }
         ensures is { OnOk result (self.new.there ≡ true) }
         ensures by { GoesBy self.old self.new }
@@ -202,7 +277,7 @@ impl<'a> Search<'a> {
     /// Does one more directive, unless it wears a pair of machines: whether it was done.
     fn go_on(&mut self, step: Step) -> Result<bool, NoMemory>
         requires law { RunsGo }
-        requires search { IsSearching self.old 1 }
+        requires search { IsSearching self.old 1 0 }
         requires step { IsStep (length self.old.world.boot.machines) step }
         ensures goes { IfOk result (λ went. (p : Place) → IsSearch self.old p → WentOn self.old self.new p step went) }
         ensures by { GoesBy self.old self.new }
@@ -233,6 +308,33 @@ impl<'a> Search<'a> {
     {
         self.past.take_back();
         self.there = false;
+    }
+}
+
+/// Whether the search is over with this.
+fn ends(looked: Looked) -> bool
+    ensures nothing { result ≡ false → looked ≡ Looked.Nothing }
+    ensures other { result ≡ true → looked ≡ Looked.Nothing → ⊥ }
+{
+    match looked {
+        Looked::Found => true,
+        Looked::Nothing => false,
+        Looked::Enough => true,
+    }
+}
+
+/// A number, or the nearest that is neither less than one number nor more than the other.
+fn within(n: u32, least: u32, most: u32) -> u32
+    requires { least ≤ most }
+    ensures least { least ≤ result }
+    ensures most { result ≤ most }
+{
+    if n < least {
+        least
+    } else if n < most {
+        n
+    } else {
+        most
     }
 }
 

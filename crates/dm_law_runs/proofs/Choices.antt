@@ -1,5 +1,4 @@
 -- What exploring leaves out, and what an answer says, by file.
-pub mod Elements
 pub mod Moves
 pub mod Behind
 pub mod Tried

@@ -1,6 +1,6 @@
 //! What holds of directives that don't meet, and of every answer, whoever explores.
 ghost use Rattle.dm_law_runs.specs.Choices.Laws.{AnswersAreLeast, AnswersAreSound, BeginningsAreTried, IdleTurnsSayNothing, NeighboursChange, NoneIsComplete, OneIsTried, SightsAreSaid};
-ghost use Rattle.dm_law_runs.specs.Choices.ByRule.{LeastByRule, NoneByRule, SoundByRule};
+ghost use Rattle.dm_law_runs.specs.Choices.ByRule.{ChosenIsGood, LeastByRule, NoneByRule, SoundByRule};
 
 /// Two directives one behind the other that don't meet may change places: the groups are the same, word for word, and so is the place
 /// behind; both are still choices.
@@ -56,4 +56,9 @@ pub fn none_by_rule()
 /// Where one is found, no good run of fewer choices has it.
 pub fn least_by_rule()
     ensures { LeastByRule }
+{}
+
+/// A good run of choices is good, as all that is printed is: so each law of good runs speaks of what is found.
+pub fn chosen_is_good()
+    ensures { ChosenIsGood }
 {}

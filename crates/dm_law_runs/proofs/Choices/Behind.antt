@@ -20,7 +20,7 @@ use Rattle.dm_explore.specs.Sights.{world_sight}
 pub use Rattle.dm_explore.proofs.Ways.{did, follows, led_on, one_longer}
 use Rattle.dm_law_runs.specs.Choices.Chosen as chosen
 use Rattle.dm_law_runs.specs.Choices.Chosen.{Chosen, Moved}
-use Rattle.dm_law_runs.proofs.Choices.Elements.{Within}
+use Rattle.dm_explore.proofs.Elements.{Within}
 use Rattle.dm_law_runs.proofs.Choices.Moves.{choices_moved}
 
 pub after_says : (b : Boot) (p : Place) (e : Step) (s : Said) → world_step b p.state e ≡ Some (Says s) → after_step b p e ≡ Some (record { done = did b p e s.lines ∷ p.done; state = s.state })

@@ -6,3 +6,4 @@ pub mod Sooner
 pub mod Taken
 pub mod Mirrors
 pub mod Answered
+pub mod Good

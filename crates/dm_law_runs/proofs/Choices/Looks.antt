@@ -9,7 +9,7 @@ use Rattle.dm_explore.specs.Asked.{Bounds, Question}
 use Rattle.dm_explore.specs.Finds.{finds}
 use Rattle.dm_explore.specs.Past.{steps_of}
 use Rattle.dm_explore.specs.Places.{Place, tried}
-use Rattle.dm_law_runs.proofs.Choices.Elements.{Contains-cases, Contains-head, Contains-none, Contains-tail}
+use Rattle.dm_explore.proofs.Elements.{Contains-cases, Contains-head, Contains-none, Contains-tail}
 
 pub record FoundAmong (test : Place → Bool) (ps : List Place) (p : Place) : Type 0 where
   pub among : Contains ps p

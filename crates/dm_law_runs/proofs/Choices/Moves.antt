@@ -16,7 +16,7 @@ use Rattle.dm_explore.specs.Finds.{came, is_stuck, rests, waits_from}
 use Rattle.dm_explore.specs.Past.{Did, comes_again, delivers, is_same, is_tick, one_if, puts_in, repeats, sent, ticks, times, was_delivered}
 use Rattle.dm_explore.specs.Sights.{Sight, any_below}
 use Rattle.dm_law_runs.specs.Choices.Chosen.{Moved, stays, changes, keeps, and}
-use Rattle.dm_law_runs.proofs.Choices.Elements.{Contains-cases, Contains-head, Contains-tail, Contains-none, Within, Within-append, Within-filter, Within-flat_map, Within-map}
+use Rattle.dm_explore.proofs.Elements.{Contains-cases, Contains-head, Contains-tail, Contains-none, Within, Within-append, Within-filter, Within-flat_map, Within-map}
 
 -- what concerns each directive by itself
 any_changed : {X : Type 0} (test : X → Bool) (x y : X) (xs : List X) → list_any test (y ∷ x ∷ xs) ≡ list_any test (x ∷ y ∷ xs)

@@ -13,7 +13,7 @@ use Rattle.dm_explore.specs.Places.{Place, after_step, chosen_at, first_place, o
 use Rattle.dm_law_runs.specs.Choices.Chosen as chosen
 use Rattle.dm_law_runs.specs.Choices.Chosen.{Chosen}
 use Rattle.dm_law_runs.specs.Choices.Laws.{BeginningsAreTried}
-use Rattle.dm_law_runs.proofs.Choices.Elements.{Contains-filter, Contains-filter_map, Contains-flat_map, Contains-head, Contains-one, filter_map_given, filter_passes, flat_map_part}
+use Rattle.dm_explore.proofs.Elements.{Contains-filter, Contains-filter_map, Contains-flat_map, Contains-head, Contains-one, filter_map_given, filter_passes, flat_map_part}
 use Rattle.dm_law_runs.proofs.Choices.Behind.{did, follows, one_longer}
 
 -- a list that is tried but for its last directive, which may be chosen there and isn't left out

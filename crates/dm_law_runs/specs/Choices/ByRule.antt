@@ -5,17 +5,20 @@ use Rattle.std.specs.declared.option.Option.TheVariants.{Some}
 use Rattle.dm_onekernel.specs.declared.boot.Boot.{Boot}
 use Rattle.dm_onekernel.specs.Boot.{IsValid}
 use Rattle.dm_schedule.specs.declared.Step.{Step}
+use Rattle.dm_line.specs.Todo.{all_of}
 use Rattle.dm_law_rule.specs.Laws.{IsStep}
 use Rattle.dm_law_rule.specs.Parts.{Spelled}
 use Rattle.dm_law_rule.specs.Point.{Point, first_point}
 use Rattle.dm_law_rule.specs.Rule.{group_of}
 use Rattle.dm_law_rule.specs.Worn.{IsWorn}
+use Rattle.dm_law_mirror.specs.Ran.{ones}
+use Rattle.dm_law_mirror.specs.Run.{IsGood}
 use Rattle.dm_explore.specs.Answers.{Answer, Found, NoneWithin, Undecided, answer}
 use Rattle.dm_explore.specs.Asked.{Bounds, Question, Line, Stuck}
 use Rattle.dm_explore.specs.Choices.{choices}
 use Rattle.dm_explore.specs.Finds.{is_stuck, some_begins}
 use Rattle.dm_explore.specs.Order.{is_away, machine_of}
-use Rattle.dm_explore.specs.Past.{Did, last_lines, steps_of}
+use Rattle.dm_explore.specs.Past.{Did, groups_of, last_lines, steps_of}
 use Rattle.dm_explore.specs.Search.{AllWent, AreAsked}
 use Rattle.dm_law_runs.specs.Choices.RuleSight.{rule_sight}
 
@@ -37,6 +40,10 @@ pub record GoesTo (b : Boot) (p : RulePlace) (e : Step) (u : RulePlace) : Type 0
 pub data RuleChosen (b : Boot) (q : Bounds) : RulePlace → Type 0 where
   begins : RuleChosen b q (record { done = []; end = first_point b })
   goes : (p u : RulePlace) (e : Step) → RuleChosen b q p → Contains (choices (length b.machines) q (rule_sight (length b.machines) p.end) p.done) e → GoesTo b p e u → RuleChosen b q u
+
+-- such a run is good, as all that is printed is: so each law of good runs speaks of what is found
+abbrev pub ChosenIsGood : Type 0
+ChosenIsGood = (b : Boot) (q : Bounds) (p : RulePlace) → IsValid b → RuleChosen b q p → IsGood b (ones (steps_of p.done)) (groups_of p.done) p.end (all_of [])
 
 abbrev pub rule_finds : Boot → Question → RulePlace → Bool
 rule_finds b (Line words) p = some_begins words (last_lines p.done)

@@ -12,7 +12,7 @@ use Rattle.dm_explore.specs.declared.past.Put.{Put}
 use Rattle.dm_explore.specs.Sights.{Sight, any_below}
 use Rattle.dm_law_runs.specs.Choices.RuleSight.{SeesSame}
 use Rattle.dm_law_runs.proofs.Traces.Going.{differ}
-use Rattle.dm_law_runs.proofs.Choices.Elements.{Contains-head, Contains-none, Contains-one, Contains-tail, filter_passes}
+use Rattle.dm_explore.proofs.Elements.{Contains-head, Contains-none, Contains-one, Contains-tail, filter_passes}
 
 pub any_below_same : (n : ℕ) (f g : ℕ → Bool) → ((m : ℕ) → m < n → f m ≡ g m) → any_below n f ≡ any_below n g
 any_below_same zero f g same = refl

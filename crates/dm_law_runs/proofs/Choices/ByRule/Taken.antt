@@ -14,7 +14,7 @@ use Rattle.dm_explore.specs.Past.{Did}
 use Rattle.dm_explore.specs.Places.{Place, chosen_at, first_place, open_at, opened, sight, tried, tried_behind}
 use Rattle.dm_explore.specs.Search.{HasGone, Taken, TakenBehind}
 use Rattle.dm_law_runs.proofs.Choices.Behind.{chosen_led, did, follows, gone_back}
-use Rattle.dm_law_runs.proofs.Choices.Elements.{Contains-filter, Contains-one, flat_map_part}
+use Rattle.dm_explore.proofs.Elements.{Contains-filter, Contains-one, flat_map_part}
 use Rattle.dm_law_runs.proofs.Choices.Tried.{first_tried, tried_chosen, tried_last}
 use Rattle.dm_law_runs.proofs.Choices.ByRule.Fine.{IsFine, taken_fine}
 use Rattle.dm_law_runs.proofs.Choices.ByRule.Sooner.{sooner}

@@ -8,4 +8,4 @@ decreases-look_behind l = l.left
 
 -- nothing is found behind the choices so far
 abbrev pub invariant-loop-step : goal.invariant-loop-step
-invariant-loop-step l = IsLooking l.fn.self l.self l.step-items l.step-index (l.left - 1)
+invariant-loop-step l = IsLooking l.initial.self l.self l.within l.step-items l.step-index (l.left - 1)

@@ -8,12 +8,12 @@ pub returns-then-found-clause-looks : goal.returns-then-found-clause-looks
 returns-then-found-clause-looks c = λ p h.
     let s = c.args.self.now in
     let page = c.finds.new.page in
-    (judged s (with_one_more s page) p (counted s page p h c.if-self.false) h.gone (one_less s page p h c.if-self.false) c.in_ok-found.found
+    (judged s (with_one_more s page) p (counted s page p h c.if-self.false) (one_less s page p h c.if-self.false) c.in_ok-found.found
     (asked_here s p c.as_slice.result.now c.in_ok-found.found c.as_slice.ensures.value c.requires.search h (λ ds past. c.in_ok-found.ensures ds past))).0 c.if-found.true
 
 pub returns-else-found-clause-looks : goal.returns-else-found-clause-looks
 returns-else-found-clause-looks c = λ p h.
     let s = c.args.self.now in
     let page = c.finds.new.page in
-    (judged s (with_one_more s page) p (counted s page p h c.if-self.false) h.gone (one_less s page p h c.if-self.false) c.in_ok-found.found
+    (judged s (with_one_more s page) p (counted s page p h c.if-self.false) (one_less s page p h c.if-self.false) c.in_ok-found.found
     (asked_here s p c.as_slice.result.now c.in_ok-found.found c.as_slice.ensures.value c.requires.search h (λ ds past. c.in_ok-found.ensures ds past))).1 c.if-found.false
