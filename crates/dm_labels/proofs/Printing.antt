@@ -23,7 +23,7 @@ use Rattle.dm_text.proofs.WordsBack.{read_id_back, read_outcome_back, read_pid_b
 use Rattle.dm_labels.specs.declared.judge.Verdict.TheVariants.{Good}
 use Rattle.dm_labels.specs.Judged.{judged_from, line_step}
 use Rattle.dm_labels.specs.Labels.{is_skipped, label_in, label_of}
-use Rattle.dm_labels.specs.Names.{name_of}
+use Rattle.dm_shape.specs.Steps.{kernel_shape_of}
 use Rattle.dm_labels.specs.Printed.{PrintedAreGood, label_lines, text_of_labels}
 use Rattle.dm_labels.proofs.Judging.{goes, label_said, one_in}
 
@@ -37,7 +37,7 @@ same_step s (label.NoSpace i n m) = refl
 same_step s x = refl
 
 label_back : (x : Label) → LineFits (line.Label x) → label_in (line_words (line.Label x)) ≡ Some (as_read x)
-unfolding name_of
+unfolding kernel_shape_of
 label_back (label.Ran p k) h = rw (read_pid_back p h.1.0, read_u32_back k h.1.1.0) refl
 label_back (label.Call p n c) h = rw (read_pid_back p h.1.0, read_u8_back n h.1.1.0, read_reply_back c) refl
 label_back (label.Send p i) h = rw (read_pid_back p h.1.0, read_id_back i h.1.1.0) refl

@@ -1,4 +1,3 @@
-pub mod Names
 pub mod Labels
 pub mod Judged
 pub mod Exact

@@ -3,7 +3,6 @@
 
 pub mod judge;
 pub mod laws;
-pub mod names;
 pub mod read;
 
 pub use judge::{MOST_TEXT, Verdict};

@@ -1,15 +1,15 @@
 //! Labels as they are written.
 ghost use Rattle.std.specs.Prelude.{◌≡◌, ◌∷◌, [], option_map};
 ghost use Rattle.dm_reading.specs.Cuts.{behind};
-ghost use Rattle.dm_labels.specs.declared.names.Name.TheVariants as name;
+ghost use Rattle.dm_shape.specs.declared.shape.KernelShape.TheVariants as kernel_shape;
 ghost use Rattle.dm_text.specs.Reading.{read_outcome, read_reply, read_why};
 ghost use Rattle.dm_labels.specs.Labels.{is_skipped, just_one, just_three, just_two, label_of, label_row};
 
-use crate::names::Name;
 use dm_message::Outcome;
 use dm_onekernel::{Label, Reply, Why};
 use dm_processor::Fault;
 use dm_reading::split;
+use dm_shape::KernelShape;
 use dm_shape::names::{byte, count, message, process};
 
 /// Whether a line says nothing: it is empty, or a comment.
@@ -98,43 +98,43 @@ fn three(rest: Option<&[u8]>) -> Option<(&[u8], &[u8], &[u8])>
     Some((first, second, third))
 }
 
-/// The label of a name and of what stands behind it.
-fn label_named(name: Name, rest: Option<&[u8]>) -> Option<Label>
-    ensures { result ≡ label_row name (behind 32 (option_map (λ t. t.now) rest.entry)) }
+/// The label of a line of this shape, by what stands behind its name.
+fn label_named(shape: KernelShape, rest: Option<&[u8]>) -> Option<Label>
+    ensures { result ≡ label_row shape (behind 32 (option_map (λ t. t.now) rest.entry)) }
 {
-    match name {
-        Name::Ran => ran(rest),
-        Name::Call => called(rest),
-        Name::Send => sent(rest),
-        Name::Wait => waits(rest),
-        Name::Out => put_out(rest),
-        Name::End => ended(rest),
-        Name::Receive => received(rest),
-        Name::Refuse => refused(rest),
-        Name::Took => Some(Label::Took {
+    match shape {
+        KernelShape::Ran => ran(rest),
+        KernelShape::Call => called(rest),
+        KernelShape::Send => sent(rest),
+        KernelShape::Wait => waits(rest),
+        KernelShape::Out => put_out(rest),
+        KernelShape::End => ended(rest),
+        KernelShape::Receive => received(rest),
+        KernelShape::Refuse => refused(rest),
+        KernelShape::Took => Some(Label::Took {
             id: message(one(rest)?)?,
         }),
-        Name::Served => Some(Label::Served {
+        KernelShape::Served => Some(Label::Served {
             id: message(one(rest)?)?,
         }),
-        Name::Gone => Some(Label::Gone {
+        KernelShape::Gone => Some(Label::Gone {
             id: message(one(rest)?)?,
         }),
-        Name::Dropped => Some(Label::Dropped {
+        KernelShape::Dropped => Some(Label::Dropped {
             id: message(one(rest)?)?,
         }),
-        Name::Created => created(rest),
-        Name::NoSpace => no_space(rest),
-        Name::Asked => Some(Label::Asked {
+        KernelShape::Created => created(rest),
+        KernelShape::NoSpace => no_space(rest),
+        KernelShape::Asked => Some(Label::Asked {
             id: message(one(rest)?)?,
         }),
-        Name::Answered => answered(rest),
+        KernelShape::Answered => answered(rest),
     }
 }
 
 /// So many instructions were executed.
 fn ran(rest: Option<&[u8]>) -> Option<Label>
-    ensures { result ≡ label_row name.Ran (behind 32 (option_map (λ t. t.now) rest.entry)) }
+    ensures { result ≡ label_row kernel_shape.Ran (behind 32 (option_map (λ t. t.now) rest.entry)) }
 {
     let (pid, n) = two(rest)?;
     let pid = process(pid)?;
@@ -144,7 +144,7 @@ fn ran(rest: Option<&[u8]>) -> Option<Label>
 
 /// A call gave a reply.
 fn called(rest: Option<&[u8]>) -> Option<Label>
-    ensures { result ≡ label_row name.Call (behind 32 (option_map (λ t. t.now) rest.entry)) }
+    ensures { result ≡ label_row kernel_shape.Call (behind 32 (option_map (λ t. t.now) rest.entry)) }
 {
     let (pid, n, given) = three(rest)?;
     let pid = process(pid)?;
@@ -155,7 +155,7 @@ fn called(rest: Option<&[u8]>) -> Option<Label>
 
 /// A message was sent.
 fn sent(rest: Option<&[u8]>) -> Option<Label>
-    ensures { result ≡ label_row name.Send (behind 32 (option_map (λ t. t.now) rest.entry)) }
+    ensures { result ≡ label_row kernel_shape.Send (behind 32 (option_map (λ t. t.now) rest.entry)) }
 {
     let (pid, id) = two(rest)?;
     let pid = process(pid)?;
@@ -165,7 +165,7 @@ fn sent(rest: Option<&[u8]>) -> Option<Label>
 
 /// A process waits.
 fn waits(rest: Option<&[u8]>) -> Option<Label>
-    ensures { result ≡ label_row name.Wait (behind 32 (option_map (λ t. t.now) rest.entry)) }
+    ensures { result ≡ label_row kernel_shape.Wait (behind 32 (option_map (λ t. t.now) rest.entry)) }
 {
     let pid = one(rest)?;
     let pid = process(pid)?;
@@ -174,7 +174,7 @@ fn waits(rest: Option<&[u8]>) -> Option<Label>
 
 /// A word was put out.
 fn put_out(rest: Option<&[u8]>) -> Option<Label>
-    ensures { result ≡ label_row name.Out (behind 32 (option_map (λ t. t.now) rest.entry)) }
+    ensures { result ≡ label_row kernel_shape.Out (behind 32 (option_map (λ t. t.now) rest.entry)) }
 {
     let (pid, word) = two(rest)?;
     let pid = process(pid)?;
@@ -184,7 +184,7 @@ fn put_out(rest: Option<&[u8]>) -> Option<Label>
 
 /// A process ended.
 fn ended(rest: Option<&[u8]>) -> Option<Label>
-    ensures { result ≡ label_row name.End (behind 32 (option_map (λ t. t.now) rest.entry)) }
+    ensures { result ≡ label_row kernel_shape.End (behind 32 (option_map (λ t. t.now) rest.entry)) }
 {
     let (pid, why_) = two(rest)?;
     let pid = process(pid)?;
@@ -194,7 +194,7 @@ fn ended(rest: Option<&[u8]>) -> Option<Label>
 
 /// A message was received.
 fn received(rest: Option<&[u8]>) -> Option<Label>
-    ensures { result ≡ label_row name.Receive (behind 32 (option_map (λ t. t.now) rest.entry)) }
+    ensures { result ≡ label_row kernel_shape.Receive (behind 32 (option_map (λ t. t.now) rest.entry)) }
 {
     let (pid, id) = two(rest)?;
     let pid = process(pid)?;
@@ -204,7 +204,7 @@ fn received(rest: Option<&[u8]>) -> Option<Label>
 
 /// A message was refused.
 fn refused(rest: Option<&[u8]>) -> Option<Label>
-    ensures { result ≡ label_row name.Refuse (behind 32 (option_map (λ t. t.now) rest.entry)) }
+    ensures { result ≡ label_row kernel_shape.Refuse (behind 32 (option_map (λ t. t.now) rest.entry)) }
 {
     let (pid, id, given) = three(rest)?;
     let pid = process(pid)?;
@@ -215,7 +215,7 @@ fn refused(rest: Option<&[u8]>) -> Option<Label>
 
 /// A process was made.
 fn created(rest: Option<&[u8]>) -> Option<Label>
-    ensures { result ≡ label_row name.Created (behind 32 (option_map (λ t. t.now) rest.entry)) }
+    ensures { result ≡ label_row kernel_shape.Created (behind 32 (option_map (λ t. t.now) rest.entry)) }
 {
     let (id, pid) = two(rest)?;
     let id = message(id)?;
@@ -225,7 +225,7 @@ fn created(rest: Option<&[u8]>) -> Option<Label>
 
 /// A process could not be made; what was free is no matter.
 fn no_space(rest: Option<&[u8]>) -> Option<Label>
-    ensures { result ≡ label_row name.NoSpace (behind 32 (option_map (λ t. t.now) rest.entry)) }
+    ensures { result ≡ label_row kernel_shape.NoSpace (behind 32 (option_map (λ t. t.now) rest.entry)) }
 {
     let (id, slots, blocks) = three(rest)?;
     let id = message(id)?;
@@ -240,7 +240,7 @@ fn no_space(rest: Option<&[u8]>) -> Option<Label>
 
 /// A request to move was answered.
 fn answered(rest: Option<&[u8]>) -> Option<Label>
-    ensures { result ≡ label_row name.Answered (behind 32 (option_map (λ t. t.now) rest.entry)) }
+    ensures { result ≡ label_row kernel_shape.Answered (behind 32 (option_map (λ t. t.now) rest.entry)) }
 {
     let (id, how) = two(rest)?;
     let id = message(id)?;
@@ -253,5 +253,5 @@ pub fn label_of(line: &[u8]) -> Option<Label>
     ensures { result ≡ label_of line.now }
 {
     let (name, rest) = split(line, b' ');
-    label_named(Name::from_word(name)?, rest)
+    label_named(KernelShape::from_word(name)?, rest)
 }

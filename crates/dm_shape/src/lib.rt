@@ -10,6 +10,7 @@ pub mod laws;
 pub mod names;
 mod shape;
 mod sort;
+mod steps;
 mod table;
 
 pub use shape::{EndShape, GroupShape, HeadShape, KernelShape, Shape, has_shape};

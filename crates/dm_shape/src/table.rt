@@ -108,7 +108,7 @@ impl HeadShape {
 
 impl KernelShape {
     /// The row of the shape.
-    fn row(self) -> Row
+    pub(crate) fn row(self) -> Row
         ensures name { result.name.now ≡ (kernel_row self).name }
         ensures sorts { result.sorts.now ≡ (kernel_row self).sorts }
         ensures lists { result.lists ≡ (kernel_row self).lists }
