@@ -1,15 +1,13 @@
 //! Which operand of a line of a schedule is refused.
 ghost use Rattle.std.specs.Prelude.{◌≡◌, ◌≤◌, ◌&&◌, ◌∷◌, [], List, length, nat_le, option_map, ℕ};
-ghost use Rattle.std.specs.List.{position};
-ghost use Rattle.dm_link.specs.Names.{pid_of};
 ghost use Rattle.dm_reading.specs.Words.{words};
 ghost use Rattle.dm_schedule.specs.Keywords.{Machine, Process, operands};
-ghost use Rattle.dm_schedule.specs.Numbers.{is_point, number_of_word, process_of};
+ghost use Rattle.dm_schedule.specs.Numbers.{number_of_word};
 ghost use Rattle.dm_schedule.specs.Operands.{value_of, within};
 ghost use Rattle.dm_explain.specs.BadOperands.{bad_from, bad_of, bad_operand, is_value, missing_words, operand_of, passes};
 
-use dm_reading::{Gap, exact_number, next_word};
-use dm_schedule::Keyword;
+use dm_reading::{Gap, next_word};
+use dm_schedule::{Keyword, number, process_numbers};
 
 /// What an operand is.
 #[derive(Clone, Copy)]
@@ -30,51 +28,8 @@ pub struct Bad<'a> {
     pub word: &'a [u8],
 }
 
-/// The most digits of a number.
-const MOST_DIGITS: usize = 10;
-
 /// The most rounds of one line.
 const MOST_ROUNDS: u64 = 65_536;
-
-/// Whether a number can have so many digits.
-fn can_have(digits: usize) -> bool
-    ensures { result ≡ (nat_le 1 digits && nat_le digits 10) }
-{
-    1 <= digits && digits <= MOST_DIGITS
-}
-
-/// The number that a word is: one to ten digits.
-#[tactic(auto, unfolding(dm_schedule::specs::Numbers::number_of_word))]
-fn number(word: &[u8]) -> Option<u64>
-    ensures { result ≡ number_of_word word.now }
-{
-    if can_have(word.len()) {
-        exact_number(word)
-    } else {
-        None
-    }
-}
-
-/// Where the first point of a word stands.
-fn point(word: &[u8]) -> Option<usize>
-    ensures { result ≡ position is_point word.now }
-{
-    word.iter().position(|c| *c == b'.')
-}
-
-/// The two numbers of a process that a word is.
-#[tactic(auto, unfolding(dm_schedule::specs::Numbers::process_of))]
-fn process_numbers(word: &[u8]) -> Option<(u64, u64)>
-    ensures { option_map (λ p. pid_of p.0 p.1) result ≡ process_of word.now }
-{
-    match point(word) {
-        None => None,
-        Some(at) => match (number(&word[..at]), number(&word[at + 1..])) {
-            (Some(home), Some(num)) => Some((home, num)),
-            _ => None,
-        },
-    }
-}
 
 /// Whether a word is a machine.
 fn is_machine(machines: u8, word: &[u8]) -> bool

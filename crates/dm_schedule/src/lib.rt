@@ -16,6 +16,7 @@ use dm_link::Pid;
 use dm_memory::{NoMemory, push};
 use dm_reading::first_line;
 pub use keywords::Keyword;
+pub use numbers::{number, process_numbers};
 use std::alloc::Global;
 use thiserror::Error;
 
