@@ -23,7 +23,8 @@ impl Node {
         requires to { to < MACHINES }
         ensures { result ≡ none_waits ((node_state self.now).senders to) }
     {
-        streams::none_waits(&self.senders, to)
+        let sender = &self.senders[usize::from(to)];
+        sender.gone_out() == sender.given()
     }
 
     /// Gives a message to the stream to machine `to`.
@@ -50,7 +51,10 @@ impl Node {
         ensures due { option_map (λ m. (m.0, m.1.now)) result ≡ due ((node_state self.now).senders to) }
         ensures lawful { IfSome result (λ m. IsLawfulMessage m.1.now) }
     {
-        streams::due(&self.senders, to)
+        match self.senders[usize::from(to)].due() {
+            Some((seq, message)) => Some((seq, message.get())),
+            None => None,
+        }
     }
 
     /// The packet that is due to machine `to` has gone out.
@@ -72,7 +76,10 @@ impl Node {
         ensures outstanding { option_map (λ m. (m.0, m.1.now)) result ≡ outstanding ((node_state self.now).senders to) place }
         ensures lawful { IfSome result (λ m. IsLawfulMessage m.1.now) }
     {
-        streams::outstanding(&self.senders, to, place)
+        match self.senders[usize::from(to)].outstanding(place) {
+            Some((seq, message)) => Some((seq, message.get())),
+            None => None,
+        }
     }
 
     /// How many packets are out to machine `to` and not acknowledged, 0 to 8.
@@ -82,7 +89,7 @@ impl Node {
         ensures count { result ≡ count_out ((node_state self.now).senders to) }
         ensures few { result ≤ WINDOW }
     {
-        streams::count_out(&self.senders, to)
+        self.senders[usize::from(to)].out()
     }
 
     /// Machine `to` has taken the first `count` messages.
@@ -102,7 +109,7 @@ impl Node {
         requires from { from < MACHINES }
         ensures { result ≡ ((node_state self.now).receivers from).count }
     {
-        streams::count(&self.receivers, from)
+        self.receivers[usize::from(from)].count()
     }
 
     /// A message with its number has come from machine `from`.
