@@ -2,6 +2,7 @@
 """A model of the system, apart from the program.
 
     python3 outside/model/model.py run --boot FILE --schedule FILE
+    python3 outside/model/model.py drive --boot FILE [--schedule FILE]
     python3 outside/model/model.py check --boot FILE --trace FILE
     python3 outside/model/model.py explain --boot FILE [--schedule FILE | --trace FILE]
     python3 outside/model/model.py drill --seed N --machines M --lines L [--trace]
@@ -35,6 +36,7 @@ from world import World, Worn
 USAGE = "usage: demosmp run --boot FILE --schedule FILE"
 LONGEST_BOOT = 1_048_576
 LONGEST = 16_777_216  # a schedule or a trace
+LONGEST_DRIVEN = 68_719_476_736
 
 
 class Stop(Exception):
@@ -121,6 +123,47 @@ def do_run(words, write):
     for directive in directives_in(options, boot):
         world.do(directive)
     write(end_lines(world))
+
+
+def do_drive(words, write):
+    found = given_options(words, ["--boot", "--schedule"], ())
+    options = dict(found)
+    if len(options) < len(found) or "--boot" not in options:
+        raise Stop(2, USAGE)
+    boot = boot_of(options)
+
+    def written(lines):
+        write(lines)
+        sys.stdout.flush()
+
+    world = World(boot, written)
+    for number, line in enumerate(lines_as_they_come(options.get("--schedule", "/dev/stdin")), 1):
+        try:
+            directives = schedule_file.read_schedule(line, len(boot.machines))
+        except schedule_file.Refused as refused:
+            raise schedule_file.Refused(number, refused.why) from None
+        for directive in directives:
+            world.do(directive)
+    write(end_lines(world))
+
+
+def lines_as_they_come(name):
+    """The lines of a file with their ends, each as soon as it is there."""
+    count = 0
+    try:
+        with open(name, "rb", buffering=0) as file:
+            held = b""
+            while piece := file.read(4096):
+                *lines, held = (held + piece).split(b"\n")
+                count += len(piece)
+                for line in lines:
+                    yield line + b"\n"
+                if count > LONGEST_DRIVEN:
+                    raise Stop(8, "too long: schedule")
+            if held:
+                yield held
+    except (OSError, ValueError):
+        raise Stop(3, "read fault", saying.of_file(name)) from None
 
 
 def do_check(words, write):
@@ -231,7 +274,7 @@ def do_explore(words, write):
 
 
 COMMANDS = {
-    "run": do_run, "check": do_check, "explain": do_explain, "drill": do_drill, "count": do_count, "look": do_look, "explore": do_explore,
+    "run": do_run, "drive": do_drive, "check": do_check, "explain": do_explain, "drill": do_drill, "count": do_count, "look": do_look, "explore": do_explore,
 }
 
 

@@ -1,0 +1,4 @@
+pub mod Names
+mod Texts
+mod Said
+mod Going

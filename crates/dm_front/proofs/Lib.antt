@@ -1,0 +1,12 @@
+pub mod Names
+pub mod Reading
+pub mod Schedules
+pub mod Outcomes
+pub mod Systems
+pub mod Meeting
+pub mod Ran
+pub mod Running
+pub mod Telling
+pub mod Saying
+pub mod Deciding
+pub mod Kept

@@ -1,0 +1,12 @@
+pub mod Outside
+pub mod Files
+pub mod Inputs
+pub mod Asked
+pub mod Meets
+pub mod Runs
+pub mod Systems
+pub mod Told
+pub mod Firsts
+pub mod Written
+pub mod Decided
+pub mod Promise
