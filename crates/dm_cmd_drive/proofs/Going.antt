@@ -1,8 +1,7 @@
 -- A world that does one more directive, whatever was done before.
 use Rattle.dm_cmd_drive.proofs.Names.{◌≡◌, ◌≤◌, ◌<◌, ℕ, zero, suc, ◌+◌, ◌*◌, ◌^◌, Bool, true, false, ⊤, List, [], ◌∷◌, ◌++◌, length, refl, ap, sym, subst, ◌∙◌, arith, length-append, Option, Some, None, slice_get, All, All-nil, All-cons, All-append, Boot, IsValid, Directive, Line, Step, Cursor, Way, World, IsWorld, world_state, WorldState}
-use Rattle.dm_cmd_drive.proofs.Names.{IsFor, IsStep, cursor_of, NextIs, found, Falls, ComesNext, NoneLeft, Led, starts, turns, does, first_way, first_world, GoesOn, Stays, IsDone, RunsGo, HasCome, HasEnded, IsThrough, IsWritten, IsAtStart, HasDone}
-use Rattle.dm_run.proofs.Going.{comes_first, few_come, next_fits}
-use Rattle.dm_run.proofs.Printing.{written_none}
+use Rattle.dm_cmd_drive.proofs.Names.{IsFor, IsStep, cursor_of, NextIs, found, Falls, ComesNext, NoneLeft, Led, starts, turns, does, first_way, first_world, GoesOn, Stays, IsDone, RunsGo, HasCome, HasEnded, IsThrough, IsWritten, IsAtStart, Does, HasDone}
+use Rattle.dm_run.proofs.Going.{comes_first, comes_on, few_come}
 
 found_more : (ds es : List Directive) (i : ℕ) (d : Directive) → slice_get ds i ≡ Some d → slice_get (ds ++ es) i ≡ Some d
 found_more [] es i d e = cc
@@ -98,3 +97,26 @@ done_none w h = record {
   where
     none_ended : (b : Boot) (Keeps : List (List Line) → Type 0) (w : WorldState) → w ≡ first_world b → Keeps [] → HasEnded b [] Keeps w
     none_ended b Keeps w first kept = record { way = first_way; come = comes_first b [] Keeps first_way w refl first kept; done = record { all = refl; none = λ rest. refl } }
+
+-- what comes behind one more group
+pub doing_on : (a b : Boot) (most : ℕ) (d : Directive) (old new : Cursor) (w u : WorldState) (e : Step) (lines : List Line) → a ≡ b → (h : IsDoing most d b old w) → GoesOn a (h.directives ++ d ∷ []) w (last_way h.directives old) (last_way h.directives new) e → Does a w e lines u → IsDoing most d b new u
+doing_on a b most d old new w u e lines same h next does_ = record {
+  directives = h.directives;
+  each = h.each;
+  few = h.few;
+  come = comes_on a b (h.directives ++ d ∷ []) (λ gs. ⊤) (λ gs. ⊤) (last_way h.directives old) (last_way h.directives new) w u e lines same h.come next does_ (λ gs k. tt);
+}
+
+-- the directive is over
+pub done_on : (a : World) (b : Boot) (most : ℕ) (d : Directive) (r : Bool) (c after : Cursor) (e : Step) → IsWorld a → a.stopped ≡ false → a.boot ≡ b → ((rest : List Directive) → NextIs (length a.boot.machines) (world_state a) c rest (found r e after)) → r ≡ false → IsDoing most d b c (world_state a) → HasDone (most + 1) a
+done_on a b most d r c after e world going same next is h =
+    let k = length-append h.directives (d ∷ []) in
+    let few = h.few in
+    record {
+      world = world;
+      going = going;
+      directives = h.directives ++ d ∷ [];
+      each = subst (λ (x : Boot). All (IsFor (length x.machines)) (h.directives ++ d ∷ [])) (sym same) h.each;
+      few = omega (arith, k, few);
+      ended = subst (λ (x : Boot). HasEnded x (h.directives ++ d ∷ []) (λ gs. ⊤) (world_state a)) (sym same) (ends_last a.boot b h.directives d (λ gs. ⊤) (world_state a) r c after e same next is h.come);
+    }

@@ -1,5 +1,5 @@
 -- What the proofs of this crate name of what lies below it.
-pub use Rattle.std.proofs.Common.{◌*◌, ◌^◌, ◌&&◌, if◌then◌else◌, zero}
+pub use Rattle.std.proofs.Common.{◌-◌, ◌*◌, ◌^◌, ◌&&◌, if◌then◌else◌, zero}
 pub use Rattle.std.proofs.Math.Seq.{take-suc}
 pub use Rattle.std.proofs.lemmas.List.{append-nil, length-append}
 pub use Rattle.std.proofs.lemmas.List.Elements.{All-append, All-cons, All-nil}
@@ -16,6 +16,8 @@ unfoldable pub use Rattle.dm_schedule.specs.Schedule.{directives_of, line_direct
 pub use Rattle.dm_schedule.specs.declared.LineFault.{LineFault}
 pub use Rattle.dm_world.specs.Cursor.{Falls, NextIs, found}
 pub use Rattle.dm_world.specs.declared.cursor.Cursor.{Cursor}
-pub use Rattle.dm_run.proofs.Names.{All, Bool, Boot, ComesNext, Directive, Err, GoesOn, HasCome, HasEnded, IsAtStart, IsDone, IsFor, IsStep, IsThrough, IsValid, IsWorld, IsWritten, Led, Line, List, None, NoneLeft, Ok, Option, Result, RunsGo, Some, Stays}
-pub use Rattle.dm_run.proofs.Names.{Step, Way, World, WorldState, [], ap, append_assoc, arith, cursor_of, does, false, first_way, first_world, length, refl, starts, subst, suc, sym, take, true, turns, world_state, ℕ, ◌++◌, ◌+◌, ◌<◌, ◌∙◌, ◌∷◌, ◌≡◌, ◌≤◌}
+pub use Rattle.dm_run.proofs.Names.{All, Bool, Does, LineFits, Offered,  Boot, ComesNext, Directive, Err, GoesOn, HasCome, HasEnded, IsAtStart, IsDone, IsFor, IsStep, IsThrough, IsValid, IsWorld, IsWritten, Led, Line, List, None, NoneLeft, Ok, Option, Result, RunsGo, Some, Stays}
+pub use Rattle.dm_run.proofs.Names.{Step, World, WorldState, appended, [], ap, append_assoc, arith, cursor_of, does, false, first_way, first_world, length, refl, starts, subst, suc, sym, take, true, turns, world_state, ℕ, ◌++◌, ◌+◌, ◌<◌, ◌∙◌, ◌∷◌, ◌≡◌, ◌≤◌}
+unfoldable pub use Rattle.dm_text.specs.Text.{text_of_lines}
+pub use Rattle.dm_run.specs.declared.way.Way.{Way}
 pub use Rattle.dm_cmd_drive.specs.Driven.{EndsLine, HasDone, IsOpen}
